@@ -1,0 +1,6 @@
+pub mod Numbers
+pub mod Geometry
+pub mod Device
+pub mod Entry
+pub mod Track
+pub mod Header

@@ -1,0 +1,74 @@
+ghost use Rattle.std.specs.Prelude.{◌≡◌, ◌<◌, ◌↔◌, IsTrue};
+ghost use Rattle.cckd_base.specs.Geometry.{track_count, track_at, address_of, IsGeometry, IsNullFormat};
+
+use crate::order::Order;
+
+/// A track's number, counted from 0 through the heads of each cylinder in turn.
+#[derive(Clone, Copy, Debug, PartialEq, Eq)]
+pub struct Track(pub u32);
+
+/// Where a track lies on the device.
+#[derive(Clone, Copy, Debug, PartialEq, Eq)]
+pub struct Addr {
+    pub cyl: u16,
+    pub head: u16,
+}
+
+/// The shape of a device: 1 to 65,536 heads and as many cylinders, at most 1,048,576 tracks, and a track
+/// size of 37 to 65,024 bytes.
+#[derive(Clone, Copy, Debug, PartialEq, Eq)]
+pub struct Geometry {
+    /// The last two digits of the device's name, as hexadecimal digits.
+    pub devtype: u8,
+    /// Heads, which are the tracks of a cylinder.
+    pub heads: u32,
+    pub cyls: u32,
+    /// The greatest length of a track in bytes.
+    pub track_size: u32,
+}
+
+impl Geometry {
+    /// The number of the track at an address.
+    pub fn track(&self, a: Addr) -> Option<Track>
+        requires { IsGeometry self.now }
+        ensures { result ≡ track_at self.now a }
+    {
+        if u32::from(a.cyl) < self.cyls && u32::from(a.head) < self.heads {
+            Some(Track(u32::from(a.cyl) * self.heads + u32::from(a.head)))
+        } else {
+            None
+        }
+    }
+
+    /// The address of a track, which `track` undoes.
+    pub fn addr(&self, t: Track) -> Addr
+        requires geometry { IsGeometry self.now }
+        requires track { t.0 < track_count self.now }
+        ensures value { result ≡ address_of self.now t.0 }
+        ensures undone { track_at self.now result ≡ Some t }
+    {
+        Addr {
+            cyl: (t.0 / self.heads) as u16,
+            head: (t.0 % self.heads) as u16,
+        }
+    }
+
+    /// Whether `fmt` is the format of a null track of such a device.
+    pub fn admits(&self, fmt: u8) -> bool
+        ensures { IsTrue result ↔ IsNullFormat self.now fmt }
+    {
+        fmt < 2
+    }
+}
+
+/// How an image lays its tracks out.
+#[derive(Clone, Copy, Debug, PartialEq, Eq)]
+pub struct Layout {
+    pub order: Order,
+    pub geo: Geometry,
+    /// Groups of 256 tracks, the last of which may be short.
+    pub groups: u32,
+    pub shadow: bool,
+    /// The format of the null tracks of a group without a table.
+    pub null_fmt: u8,
+}

@@ -1,0 +1,26 @@
+//! The shared words of the workspace: geometries, tracks, table entries, faults and replies.
+#![tactic(auto)]
+
+mod device;
+mod entry;
+mod fault;
+mod geometry;
+mod order;
+mod reply;
+mod space;
+mod unit;
+
+pub use device::geometry_of;
+pub use entry::L2Entry;
+pub use fault::{CountField, GeoField, HeaderFault, TrackFault};
+pub use geometry::{Addr, Geometry, Layout, Track};
+pub use order::Order;
+pub use reply::{Refusal, Reply};
+pub use space::{Extent, Full, Owner};
+pub use unit::Unit;
+
+/// The greatest length of an image in bytes.
+pub const FORMAT_LIMIT: u32 = 2_147_483_640;
+
+/// The answer for want of memory.
+pub type Memory = std::alloc::AllocError;
