@@ -1,5 +1,5 @@
 -- Track numbers and addresses of a device.
-use Rattle.std.specs.Prelude.{◌≡◌, ◌<◌, ◌≤◌, ℕ, ◌+◌, ◌*◌, ◌/◌, ◌%◌, nat_lt, ◌&&◌, if◌then◌else◌, Option, Some, None}
+use Rattle.std.specs.Prelude.{◌≡◌, ◌<◌, ◌≤◌, ℕ, ◌+◌, ◌*◌, ◌/◌, ◌%◌, nat_lt, Bool, ◌&&◌, if◌then◌else◌, Option, Some, None}
 use Rattle.cckd_base.specs.declared.geometry.Geometry.{Geometry}
 use Rattle.cckd_base.specs.declared.geometry.Layout.{Layout}
 use Rattle.cckd_base.specs.declared.geometry.Addr.{Addr}
@@ -13,6 +13,10 @@ track_count g = g.cyls * g.heads
 abbrev pub group_count : Geometry → ℕ
 group_count g = (track_count g + 255) / 256
 
+-- the bytes of the two headers and of a level-one table of so many words
+abbrev pub area_of : ℕ → ℕ
+area_of groups = 1024 + 4 * groups
+
 -- the track at an address, where the device has the address
 abbrev pub track_at : Geometry → Addr → Option Track
 track_at g a =
@@ -25,6 +29,10 @@ address_of g t = record { cyl = t / g.heads; head = t % g.heads }
 -- the formats that a null track of the device may have
 abbrev pub IsNullFormat : Geometry → ℕ → Type 0
 IsNullFormat g format = format < 2
+
+-- the same as a test
+abbrev pub is_null_format : Geometry → ℕ → Bool
+is_null_format g format = nat_lt format 2
 
 -- the geometries that an image may have
 pub record IsGeometry (g : Geometry) : Type 0 where

@@ -4,3 +4,5 @@ pub mod Device
 pub mod Entry
 pub mod Track
 pub mod Header
+pub mod Misfit
+pub mod Answer
