@@ -45,38 +45,43 @@ spelled_passed at r rest fits h stands =
     record_passed at (spelling r ++ rest) (length (spelling r)) (count_stands at (spelling r ++ rest) (length (spelling r)) (spelled_count at r rest fits h stands))
     ∙ ap (λ (bytes : List ℕ). records_fault (at + length (spelling r)) 0 bytes) (drop_at (spelling r) rest (length (spelling r)) refl)
 
+pub user_stands : (at : ℕ) (r : CountKeyData) (rest : List ℕ) → 5 < at → IsUserRecord r → may_stand at (spelling r ++ rest) ≡ true
+user_stands at r rest behind user =
+    let other : eqb at 5 ≡ false = ne_eqb at 5 (λ e. omega arith) in
+    let numbered : eqb r.number 0 ≡ false = ne_eqb r.number 0 (λ e. omega (arith, user.number)) in
+    rw (other, numbered) refl
+
+pub zero_stands : (r : CountKeyData) (rest : List ℕ) → IsRecordZero r → may_stand 5 (spelling r ++ rest) ≡ true
+zero_stands r rest first =
+    let eight : body_length (spelling r ++ rest) ≡ 8 = from_be_bytes-to_be_bytes_2 (length r.body) first.fits.body ∙ first.body in
+    let number : eqb r.number 0 ≡ true = eq-eqb _ _ first.number in
+    let keyless : eqb (length r.key) 0 ≡ true = eq-eqb _ _ (ap length first.key) in
+    rw (number, keyless, eight) refl
+
 -- ---- whole tracks
 
 pub spelled_records_pass : (at : ℕ) (rs : List CountKeyData) → 5 < at → AllByRecursion IsUserRecord rs → length (flat_map spelling rs ++ end_mark) < 65535 → records_fault at 0 (flat_map spelling rs ++ end_mark) ≡ None
-spelled_records_pass at [] behind user short =
+spelled_records_pass at [] behind users short =
     let other : eqb at 5 ≡ false = ne_eqb at 5 (λ e. omega arith) in
     verdict_stands at end_mark None (rw other refl)
-spelled_records_pass at (r ∷ rs) behind user short =
+spelled_records_pass at (r ∷ rs) behind users short =
     let rest = flat_map spelling rs ++ end_mark in
     let grouped : flat_map spelling (r ∷ rs) ++ end_mark ≡ spelling r ++ rest = append_assoc (spelling r) (flat_map spelling rs) end_mark in
     let len = length-spelling r rest in
     let all = ap length grouped in
-    let other : eqb at 5 ≡ false = ne_eqb at 5 (λ e. omega arith) in
-    let numbered : eqb r.number 0 ≡ false = ne_eqb r.number 0 (λ e. omega (arith, user.0.number)) in
-    let stands : may_stand at (spelling r ++ rest) ≡ true = rw (other, numbered) refl in
     ap (records_fault at 0) grouped
-    ∙ spelled_passed at r rest user.0.fits (omega arith) stands
-    ∙ spelled_records_pass (at + length (spelling r)) rs (omega arith) user.1 (omega arith)
+    ∙ spelled_passed at r rest users.0.fits (omega arith) (user_stands at r rest behind users.0)
+    ∙ spelled_records_pass (at + length (spelling r)) rs (omega arith) users.1 (omega arith)
 
 pub records_pass : (rs : List CountKeyData) → AreRecords rs → length (flat_map spelling rs ++ end_mark) < 65535 → records_fault 5 0 (flat_map spelling rs ++ end_mark) ≡ None
 records_pass [] records short = absurd records
 records_pass (r ∷ rs) records short =
-    let first = records.0 in
     let rest = flat_map spelling rs ++ end_mark in
     let grouped : flat_map spelling (r ∷ rs) ++ end_mark ≡ spelling r ++ rest = append_assoc (spelling r) (flat_map spelling rs) end_mark in
     let len = length-spelling r rest in
     let all = ap length grouped in
-    let eight : body_length (spelling r ++ rest) ≡ 8 = from_be_bytes-to_be_bytes_2 (length r.body) first.fits.body ∙ first.body in
-    let number : eqb r.number 0 ≡ true = eq-eqb _ _ first.number in
-    let keyless : eqb (length r.key) 0 ≡ true = eq-eqb _ _ (ap length first.key) in
-    let stands : may_stand 5 (spelling r ++ rest) ≡ true = rw (number, keyless, eight) refl in
     ap (records_fault 5 0) grouped
-    ∙ spelled_passed 5 r rest first.fits (omega (arith, first.body)) stands
+    ∙ spelled_passed 5 r rest records.0.fits (omega (arith, records.0.body)) (zero_stands r rest records.0)
     ∙ spelled_records_pass (5 + length (spelling r)) rs (omega (arith, length-append {A = ℕ})) records.1 (omega arith)
 
 -- the bytes pass each test of the home address

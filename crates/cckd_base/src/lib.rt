@@ -8,6 +8,8 @@ mod geometry;
 mod order;
 mod reply;
 mod space;
+#[cfg(test)]
+mod tests;
 mod unit;
 
 pub use device::geometry_of;

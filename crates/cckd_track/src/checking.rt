@@ -5,7 +5,7 @@ ghost use Rattle.cckd_base.specs.Track.{OkUnless, may_stand, end_verdict, record
 use crate::writing::{END_MARK, address_of};
 use cckd_base::{Layout, Track, TrackFault};
 
-/// The length of a count.
+/// The length of a count, and of the end mark.
 const COUNT_LEN: usize = 8;
 
 /// Where record zero stands, behind the home address.
@@ -28,10 +28,12 @@ pub(crate) fn check_home(l: &Layout, t: Track, bytes: &[u8]) -> Result<(), Track
     let &[flag, a, b, c, d, ..] = bytes else {
         return Err(TrackFault::NoEnd { at: len });
     };
-    if flag % 4 != 0 {
+    let here = bytes[1..5] == address_of(l.geo.addr(t))[..];
+    let plain = flag % 4 == 0;
+    if !plain {
         return Err(TrackFault::Compressed { byte: flag });
     }
-    if bytes[1..5] != address_of(l.geo.addr(t))[..] {
+    if !here {
         return Err(TrackFault::WrongTrack {
             cyl: u16::from_be_bytes([a, b]),
             head: u16::from_be_bytes([c, d]),
@@ -61,12 +63,11 @@ fn measure(at: usize, rest: &[u8]) -> Result<usize, Option<TrackFault>>
     requires { at + length rest.now ≤ 65535 }
     ensures { result ≡ record_at at rest.now }
 {
-    let place = at as u32;
     if rest.len() < COUNT_LEN {
-        return Err(Some(TrackFault::NoEnd { at: place }));
+        return Err(Some(TrackFault::NoEnd { at: at as u32 }));
     }
     if rest[..COUNT_LEN] == END_MARK[..] {
-        return Err(judge_end(place, rest));
+        return Err(judge_end(at, rest));
     }
     let len = COUNT_LEN
         + usize::from(rest[5])
@@ -74,22 +75,29 @@ fn measure(at: usize, rest: &[u8]) -> Result<usize, Option<TrackFault>>
     if is_record(at, rest) && len <= rest.len() {
         Ok(len)
     } else {
-        Err(Some(TrackFault::BadRecord { at: place }))
+        Err(Some(bad_record(at)))
     }
 }
 
 /// How the end mark at a place is judged.
-fn judge_end(at: u32, rest: &[u8]) -> Option<TrackFault>
-    requires { at + 8 < 65536 }
+fn judge_end(at: usize, rest: &[u8]) -> Option<TrackFault>
+    requires { at + 8 ≤ 65535 }
     ensures { result ≡ end_verdict at rest.now }
 {
-    if at == 5 {
-        Some(TrackFault::BadRecord { at })
+    if at == RECORD_ZERO {
+        Some(bad_record(at))
     } else if rest.len() == COUNT_LEN {
         None
     } else {
-        Some(TrackFault::BadRecord { at: at + 8 })
+        Some(bad_record(at + COUNT_LEN))
     }
+}
+
+fn bad_record(at: usize) -> TrackFault
+    requires { at ≤ 65535 }
+    ensures { result ≡ TrackFault.BadRecord at }
+{
+    TrackFault::BadRecord { at: at as u32 }
 }
 
 /// Whether a count may stand at a place: that of record zero at the first, and any other behind it.

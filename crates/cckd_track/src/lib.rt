@@ -3,6 +3,8 @@
 
 mod checking;
 mod ckd_unit;
+#[cfg(test)]
+mod tests;
 mod writing;
 
 pub use cckd_base::Unit;
