@@ -9,6 +9,8 @@ mod misfit;
 mod order;
 mod reply;
 mod space;
+#[cfg(test)]
+mod tests;
 mod unit;
 
 pub use device::geometry_of;

@@ -1,0 +1,4 @@
+pub mod AnswerLemmas
+pub mod HomeLemmas
+pub mod StopLemmas
+pub mod WritingLemmas
