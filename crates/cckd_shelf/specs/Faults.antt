@@ -1,0 +1,55 @@
+-- Which calls fail, and what that does to the counts.
+use Rattle.std.specs.Prelude.{ℕ, ◌≡◌, ◌+◌, ◌-◌, ◌^◌, ◌≤◌, min, Result, OnErr}
+use Rattle.cckd_shelf.specs.declared.fault.Failed.{Failed}
+use Rattle.cckd_shelf.specs.declared.fault.Faults.{Faults}
+pub use Rattle.cckd_shelf.specs.declared.fault.Kind.{Kind}
+pub use Rattle.cckd_shelf.specs.declared.fault.Kind.TheVariants.{Reads, Writes, Syncs, Takes, Puts}
+
+-- how many calls of a kind have failed
+abbrev pub count : Kind → Faults → ℕ
+count Reads f = f.reads
+count Writes f = f.writes
+count Syncs f = f.syncs
+count Takes f = f.takes
+count Puts f = f.puts
+
+-- how many calls have failed, of all kinds
+abbrev pub total : Faults → ℕ
+total f = f.reads + f.writes + f.syncs + f.takes + f.puts
+
+-- the count rose, or stands at the last value of a `u64`
+abbrev pub Rose : ℕ → ℕ → Type 0
+Rose old new = min (old + 1) (2 ^ 64 - 1) ≤ new
+
+-- no count fell
+pub record NoneFell (old new : Faults) : Type 0 where
+  pub reads : old.reads ≤ new.reads
+  pub writes : old.writes ≤ new.writes
+  pub syncs : old.syncs ≤ new.syncs
+  pub takes : old.takes ≤ new.takes
+  pub puts : old.puts ≤ new.puts
+
+-- the counts with another number for one kind
+abbrev pub with_count : Kind → ℕ → Faults → Faults
+with_count Reads n f = record f { reads = n }
+with_count Writes n f = record f { writes = n }
+with_count Syncs n f = record f { syncs = n }
+with_count Takes n f = record f { takes = n }
+with_count Puts n f = record f { puts = n }
+
+-- a call of this kind failed
+pub record Raises (kind : Kind) (old new : Faults) : Type 0 where
+  pub fell : NoneFell old new
+  pub counts : new ≡ with_count kind (min (count kind old + 1) (2 ^ 64 - 1)) old
+
+-- what a call of this kind does to the counts: none falls, the others stay, and its own rose where it failed
+pub record Fails {T : Type 0} (kind : Kind) (result : Result T Failed) (old new : Faults) : Type 0 where
+  pub fell : NoneFell old new
+  pub others : new ≡ with_count kind (count kind new) old
+  pub rose : OnErr result (Rose (count kind old) (count kind new))
+  pub last : count kind old ≤ 2 ^ 64 - 1 → count kind new ≤ 2 ^ 64 - 1
+
+-- the count of calls rose by at most one
+pub record Called (old new : ℕ) : Type 0 where
+  pub fell : old ≤ new
+  pub once : new ≤ old + 1
