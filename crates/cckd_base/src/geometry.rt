@@ -1,4 +1,4 @@
-ghost use Rattle.std.specs.Prelude.{◌≡◌, ◌<◌, ◌↔◌, IsTrue};
+ghost use Rattle.std.specs.Prelude.{◌≡◌, ◌<◌, ◌↔◌, IsTrue, IfSome};
 ghost use Rattle.cckd_base.specs.Geometry.{track_count, track_at, address_of, IsGeometry, IsNullFormat};
 
 use crate::order::Order;
@@ -28,10 +28,12 @@ pub struct Geometry {
 }
 
 impl Geometry {
-    /// The number of the track at an address.
+    /// The number of the track at an address, which `addr` undoes.
     pub fn track(&self, a: Addr) -> Option<Track>
         requires { IsGeometry self.now }
-        ensures { result ≡ track_at self.now a }
+        ensures value { result ≡ track_at self.now a }
+        ensures within { IfSome result (λ t. t.0 < track_count self.now) }
+        ensures undone { IfSome result (λ t. address_of self.now t.0 ≡ a) }
     {
         if u32::from(a.cyl) < self.cyls && u32::from(a.head) < self.heads {
             Some(Track(u32::from(a.cyl) * self.heads + u32::from(a.head)))

@@ -1,0 +1,20 @@
+//! The plain program: it makes the stage over real files and standard streams, and runs the words.
+#![tactic(auto)]
+
+mod words;
+
+use cckd_shelf::HostStage;
+use cckd_top::run_plain;
+use std::process::ExitCode;
+
+/// The status where memory for the words is wanted.
+const NO_MEMORY: u8 = 8;
+
+fn main(rt: HostRuntime) -> ExitCode {
+    let alloc = rt.alloc();
+    let Ok(words) = words::words_of(&rt, alloc) else {
+        return ExitCode::from(NO_MEMORY);
+    };
+    let (_stage, status) = run_plain(HostStage::new(rt, alloc), alloc, &words);
+    ExitCode::from(status.code)
+}

@@ -1,0 +1,13 @@
+mod CauseLemmas
+mod ExplainedLemmas
+mod FaultLemmas
+mod Binding
+mod HeaderLemmas
+mod NameLemmas
+mod PutLemmas
+mod Putting
+mod ReplyLemmas
+mod ScriptLemmas
+mod TableLemmas
+mod Taking
+mod WorldLemmas

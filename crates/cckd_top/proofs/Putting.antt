@@ -1,0 +1,44 @@
+-- What the loop that puts a text keeps.
+use Rattle.std.proofs.Common.{◌≡◌, ℕ, ◌+◌, ◌-◌, ◌≤◌, List, ◌++◌, length, take, drop, refl, sym, ◌∙◌, ap, subst, arith, append_assoc, append-nil, length-drop}
+use Rattle.std.proofs.Math.Seq.{take-add, take-length}
+use Rattle.cckd_shelf.specs.declared.fault.Faults.{Faults}
+use Rattle.cckd_shelf.specs.declared.fault.Kind.TheVariants.{Puts}
+use Rattle.cckd_shelf.specs.Faults.{Fails}
+use Rattle.cckd_shelf.specs.World.{World, output_of, after_put}
+use Rattle.cckd_top.specs.World.{KeepsFiles, file_ops}
+use Rattle.cckd_top.proofs.FaultLemmas.{went_well, fails_then}
+use Rattle.cckd_top.proofs.WorldLemmas.{keeps_files_twice}
+
+-- the first n bytes of a text were put
+pub record IsPutSoFar (tells : Type 0) (old now : World) (before after : Faults) (text : List ℕ) (n : ℕ) : Type 0 where
+  pub within : n ≤ length text
+  pub output : tells → output_of now.events ≡ output_of old.events ++ take n text
+  pub files : tells → KeepsFiles old now
+  pub fails : Fails Puts went_well before after
+
+keeps_at_put : (w : World) (bytes : List ℕ) → KeepsFiles w (after_put w bytes)
+keeps_at_put w bytes = record { files = refl; untouched = append-nil (file_ops w.events); sure = refl }
+
+-- one more piece of it
+pub put_more : (tells : Type 0) (old now next : World) (before after later : Faults) (text : List ℕ) (n m : ℕ)
+    → IsPutSoFar tells old now before after text n
+    → m ≤ length text - n
+    → (tells → next ≡ after_put now (take m (take (length text - n) (drop n text))))
+    → Fails Puts went_well after later
+    → IsPutSoFar tells old next before later text (n + m)
+put_more tells old now next before after later text n m so_far fits stepped fine =
+    let rest : take (length text - n) (drop n text) ≡ drop n text =
+    let e = length-drop n text in rw (← e) (take-length (drop n text)) in
+    let bytes = take m (take (length text - n) (drop n text)) in
+    record {
+      within = omega (arith, so_far.within, fits);
+      output = λ told.
+          ap (λ (w : World). output_of w.events) (stepped told)
+          ∙ ap (λ (s : List ℕ). s ++ bytes) (so_far.output told)
+          ∙ append_assoc (output_of old.events) (take n text) bytes
+          ∙ ap (λ (s : List ℕ). output_of old.events ++ (take n text ++ take m s)) rest
+          ∙ ap (λ (s : List ℕ). output_of old.events ++ s) (sym (take-add n m text));
+      files = λ told. keeps_files_twice old now next (so_far.files told)
+          (subst (KeepsFiles now) (sym (stepped told)) (keeps_at_put now bytes));
+      fails = fails_then Puts went_well went_well before after later so_far.fails fine;
+    }

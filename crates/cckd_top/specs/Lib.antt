@@ -1,0 +1,9 @@
+pub mod Words
+pub mod Explained
+pub mod Names
+pub mod Run
+pub mod Script
+pub mod Text
+pub mod Opening
+pub mod Put
+pub mod World

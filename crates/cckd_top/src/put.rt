@@ -1,0 +1,44 @@
+//! Pieces of text in a buffer, one behind the other.
+
+ghost use Rattle.std.specs.Prelude.{◌≡◌, ◌+◌, ◌*◌, ◌≤◌, length, decimal};
+ghost use Rattle.cckd_top.specs.Put.{IsPut};
+ghost use Rattle.cckd_top.specs.Text.{hex_text};
+
+use itoa::Buffer;
+
+/// The most digits of a number.
+const DIGITS: usize = 20;
+
+/// Puts bytes at `at`, and answers where they end.
+pub fn put_bytes(line: &mut [u8], at: usize, text: &[u8]) -> usize
+    requires { at + length text.now ≤ length line.old }
+    ensures { IsPut at result text.now line.old line.new }
+{
+    let end = at + text.len();
+    line[at..end].copy_from_slice(text);
+    end
+}
+
+/// Puts a number as decimal digits, of which it has at most 20.
+pub fn put_number(line: &mut [u8], at: usize, number: u64) -> usize
+    requires { at + DIGITS ≤ length line.old }
+    ensures put { IsPut at result (decimal number) line.old line.new }
+    ensures short { result ≤ at + DIGITS }
+{
+    let mut buffer = Buffer::new();
+    put_bytes(line, at, buffer.format(number).as_bytes())
+}
+
+/// Puts bytes as two hexadecimal digits each, and `-` for no bytes.
+pub fn put_hex(line: &mut [u8], at: usize, bytes: &[u8]) -> usize
+    requires { at + 2 * length bytes.now + 1 ≤ length line.old }
+    ensures put { IsPut at result (hex_text bytes.now) line.old line.new }
+    ensures short { result ≤ at + 2 * length bytes.now + 1 }
+{
+    if bytes.is_empty() {
+        return put_bytes(line, at, b"-");
+    }
+    let end = at + 2 * bytes.len();
+    let _ = hex::encode_to_slice(bytes, &mut line[at..end]);
+    end
+}
