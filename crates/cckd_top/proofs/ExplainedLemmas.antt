@@ -1,5 +1,5 @@
 -- A run that asks, and then prints.
-use Rattle.std.proofs.Common.{ℕ, List, ◌++◌, take, refl, ◌∙◌, ap, arith}
+use Rattle.std.proofs.Common.{◌≡◌, ℕ, List, ◌++◌, take, refl, ◌∙◌, ap, arith}
 use Rattle.cckd_shelf.specs.declared.fault.Faults.{Faults}
 use Rattle.cckd_shelf.specs.Faults.{Rose, NoneFell}
 use Rattle.cckd_shelf.specs.World.{World, IsSure}
@@ -57,14 +57,17 @@ printed_rises tells rose risen old new text code status more printed = elim prin
 pub explained : (tells : Type 0) (old between new : World) (a b c : Faults) (words : List (List ℕ)) (end : Ending) (buffer : List ℕ)
     (status : ℕ)
     → HasCause (tells × IsSure old) old words (Rose a.reads b.reads) (Rose a.takes b.takes) end buffer
+    → (tells → end ≡ ending.Unread → between.script ≡ old.script)
     → (tells → OnlyAsks old between) → NoneFell a b
+    → (tells → new.script ≡ between.script)
     → IsPrinted tells between new (ending_text end (shown end buffer)) (ending_status end) (Rose b.puts c.puts) status
     → (tells → KeepsFiles between new) → NoneFell b c
     → IsExplained tells old new a c words status
-explained tells old between new a b c words stop buffer status cause asks fell printed files later = record {
+explained tells old between new a b c words stop buffer status cause untaken asks fell kept printed files later = record {
   end = stop;
   buffer = buffer;
   cause = cause_later _ _ _ _ _ old words stop buffer (λ rose. omega (arith, rose, later.reads)) (λ rose. omega (arith, rose, later.takes)) cause;
+  untaken = λ t unread. kept t ∙ untaken t unread;
   printed = printed_rises tells (Rose b.puts c.puts) (Rose a.puts c.puts) old new _ _ status (λ rose. omega (arith, rose, fell.puts))
       (printed_later tells _ old between new _ _ status asks printed);
   files = λ t. keeps_files_twice old between new (asks t).keeps (files t);

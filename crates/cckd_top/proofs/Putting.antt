@@ -14,6 +14,7 @@ pub record IsPutSoFar (tells : Type 0) (old now : World) (before after : Faults)
   pub within : n ≤ length text
   pub output : tells → output_of now.events ≡ output_of old.events ++ take n text
   pub files : tells → KeepsFiles old now
+  pub script : tells → now.script ≡ old.script
   pub fails : Fails Puts went_well before after
 
 keeps_at_put : (w : World) (bytes : List ℕ) → KeepsFiles w (after_put w bytes)
@@ -40,5 +41,6 @@ put_more tells old now next before after later text n m so_far fits stepped fine
           ∙ ap (λ (s : List ℕ). output_of old.events ++ s) (sym (take-add n m text));
       files = λ told. keeps_files_twice old now next (so_far.files told)
           (subst (KeepsFiles now) (sym (stepped told)) (keeps_at_put now bytes));
+      script = λ told. ap (λ (w : World). w.script) (stepped told) ∙ so_far.script told;
       fails = fails_then Puts went_well went_well before after later so_far.fails fine;
     }

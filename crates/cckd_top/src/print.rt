@@ -51,6 +51,7 @@ pub fn print<T: Stage>(stage: &mut T, ending: Ending, buffer: &[u8], line: &mut 
         (ending_text ending (shown ending buffer.now)) (ending_status ending)
         (Rose (T.faults stage.old).puts (T.faults stage.new).puts) result }
     ensures files { T.tells → KeepsFiles (T.world stage.old) (T.world stage.new) }
+    ensures script { T.tells → (T.world stage.new).script ≡ (T.world stage.old).script }
     ensures fell { NoneFell (T.faults stage.old) (T.faults stage.new) }
 {
     let count = shown_len(ending, buffer);

@@ -109,6 +109,7 @@ fn run_file<T: Stage>(stage: &mut T, file: &str, out: &mut [u8]) -> Ending
     ensures cause { HasFileCause (T.tells × IsSure (T.world stage.old)) (T.world stage.old) file.now
         (Rose (T.faults stage.old).reads (T.faults stage.new).reads)
         (Rose (T.faults stage.old).takes (T.faults stage.new).takes) result out.new }
+    ensures untaken { T.tells → result ≡ Ending.Unread → (T.world stage.new).script ≡ (T.world stage.old).script }
     ensures asks { T.tells → OnlyAsks (T.world stage.old) (T.world stage.new) }
     ensures fell { NoneFell (T.faults stage.old) (T.faults stage.new) }
 {
@@ -127,6 +128,7 @@ pub fn run_words<T: Stage>(stage: &mut T, words: &[String], out: &mut [u8]) -> E
     ensures cause { HasCause (T.tells × IsSure (T.world stage.old)) (T.world stage.old) (map string_bytes words.now)
         (Rose (T.faults stage.old).reads (T.faults stage.new).reads)
         (Rose (T.faults stage.old).takes (T.faults stage.new).takes) result out.new }
+    ensures untaken { T.tells → result ≡ Ending.Unread → (T.world stage.new).script ≡ (T.world stage.old).script }
     ensures asks { T.tells → OnlyAsks (T.world stage.old) (T.world stage.new) }
     ensures fell { NoneFell (T.faults stage.old) (T.faults stage.new) }
 {

@@ -14,6 +14,7 @@ pub fn put_all<T: Stage>(stage: &mut T, text: &[u8]) -> Result<(), Failed>
         (output_of (T.world stage.new).events ≡ output_of (T.world stage.old).events ++ text.now) }
     ensures front { T.tells → PutsFront (T.world stage.old) (T.world stage.new) text.now }
     ensures files { T.tells → KeepsFiles (T.world stage.old) (T.world stage.new) }
+    ensures script { T.tells → (T.world stage.new).script ≡ (T.world stage.old).script }
     ensures fails { Fails Puts result (T.faults stage.old) (T.faults stage.new) }
 {
     let mut put = 0;
