@@ -1,5 +1,5 @@
 -- The rule at the start, as numbers are dealt and taken in, and what it says at the end.
-use Rattle.std.proofs.Common.{◌≡◌, ◌≢◌, ◌⊎◌, ⊎_elim, ℕ, zero, suc, ◌+◌, ◌-◌, ◌*◌, ◌^◌, ◌<◌, ◌≤◌, List, [], ◌∷◌, ◌++◌, length, set, eqb, refl, sym, ap, ◌∙◌, subst, arith, Option, Some}
+use Rattle.std.proofs.Common.{◌≡◌, ◌≢◌, ⊎_elim, ℕ, zero, suc, ◌+◌, ◌-◌, ◌*◌, ◌^◌, ◌<◌, ◌≤◌, List, [], ◌∷◌, ◌++◌, length, set, eqb, refl, sym, ap, ◌∙◌, subst, arith, Option, Some}
 use mathlib.Core.Logic.{dite}
 use native.Mathlib.Decide.{ℕ_discrete}
 use mathlib.Core.Option as maybe
@@ -7,9 +7,9 @@ use mathlib.Core.List.{IsPrefix}
 use lib.ListN.{get_elem?}
 use Rattle.atomic_table.specs.Table.{State, Splits, Joins, opening}
 use Rattle.atomic_table.proofs.Lists.{at_set, at_snoc}
-use Rattle.cckd_turn.specs.Entries.{entries_of, Each, total, one_if}
-use Rattle.cckd_turn.specs.Views.{with_ticket, has_turn, times, new_names, second_name, without_second, opening_view, after_dealing, dealt, joined, spent}
-use Rattle.cckd_turn.specs.Rule.{has_ticket, has_number, turns, left, IsHome, IsInTurn, Fits, IsKept}
+use Rattle.cckd_turn.specs.Entries.{entries_of, total, one_if}
+use Rattle.cckd_turn.specs.Views.{with_ticket, has_turn, times, new_names, opening_view, after_dealing, dealt, joined, spent}
+use Rattle.cckd_turn.specs.Rule.{has_ticket, has_number, turns, left, IsInTurn, Fits, IsKept}
 use Rattle.cckd_turn.specs.declared.view.Stage.{Stage}
 use Rattle.cckd_turn.specs.declared.view.Stage.TheVariants.{Idle, Waiting, Holding, Returning}
 use Rattle.cckd_turn.specs.declared.view.Terms.{Terms}

@@ -1,8 +1,8 @@
 -- The passes of a new table.
-use Rattle.std.proofs.Common.{◌≡◌, ◌≢◌, ◌⊎◌, inl, inr, ⊎_elim, ℕ, zero, suc, ◌+◌, ◌-◌, ◌*◌, ◌<◌, ◌≤◌, List, [], ◌∷◌, ◌++◌, length, refl, sym, ap, ◌∙◌, subst, arith, Some, suc-mul}
+use Rattle.std.proofs.Common.{◌≡◌, ◌⊎◌, inl, inr, ⊎_elim, ℕ, zero, suc, ◌+◌, ◌-◌, ◌*◌, ◌≤◌, List, [], ◌∷◌, ◌++◌, length, refl, sym, ap, ◌∙◌, arith, Some, suc-mul}
 use Rattle.std.specs.Prelude.{slice_get}
-use Rattle.cckd_turn.specs.Views.{first_own, new_names, blank, opening_view, after_dealing, dealt}
-use Rattle.cckd_turn.specs.Passes.{known, view_of, callers_of, calls_each_of, table_id_of, IsResting, IsNew}
+use Rattle.cckd_turn.specs.Views.{first_own, new_names, blank, opening_view, after_dealing}
+use Rattle.cckd_turn.specs.Passes.{known, view_of, callers_of, calls_each_of, table_id_of, IsNew}
 use Rattle.cckd_turn.specs.declared.view.Terms.{Terms}
 use Rattle.cckd_turn.specs.declared.view.View.{View}
 use Rattle.cckd_turn.specs.declared.pass.Pass.{Pass}

@@ -1,24 +1,23 @@
 -- What the rule says of one view among the others, and the steps that leave the list and the value as they are.
-use Rattle.std.proofs.Common.{◌≡◌, ◌≢◌, ◌⊎◌, ⊎_elim, ℕ, zero, suc, ◌+◌, ◌-◌, ◌*◌, ◌%◌, ◌^◌, ◌<◌, ◌≤◌, List, [], ◌∷◌, ◌++◌, length, set, get_or, eqb, refl, sym, ap, ◌∙◌, subst, arith, Option, Some}
+use Rattle.std.proofs.Common.{◌≡◌, ◌≢◌, ⊎_elim, ℕ, zero, suc, ◌+◌, ◌%◌, ◌^◌, ◌<◌, List, [], ◌∷◌, length, set, eqb, refl, sym, ap, ◌∙◌, subst, arith, Option}
 use Rattle.std.specs.Prelude.{slice_index, slice_set}
 use mathlib.Core.Logic.{dite}
 use native.Mathlib.Decide.{ℕ_discrete}
 use mathlib.Core.Option as maybe
-use mathlib.Core.List.{IsPrefix}
 use lib.ListN.{get_elem?}
 use prog.Atomic.{either}
-use Rattle.atomic_table.specs.Table.{State, Me, Step, Act, keeps, takes, gives, Valid, Allows, Splits, Joins, stepped, homes_after, carried_after}
-use Rattle.atomic_table.proofs.Lists.{at_set, at_snoc, exchanged}
-use Rattle.cckd_turn.specs.Entries.{entries_of, Each, total, one_if}
-use Rattle.cckd_turn.specs.Views.{with_ticket, has_turn, times, waiting, refused, looking, holding, returning, served}
-use Rattle.cckd_turn.specs.Rule.{has_ticket, has_number, turns, left, IsHome, IsInTurn, Fits, IsKept}
-use Rattle.cckd_turn.specs.Steps.{Sat, drawn, tried, looked, took, put_back, passed_on}
+use Rattle.atomic_table.specs.Table.{State, Act, keeps, Valid, Allows, homes_after, carried_after}
+use Rattle.atomic_table.proofs.Lists.{at_set, exchanged}
+use Rattle.cckd_turn.specs.Entries.{total, one_if}
+use Rattle.cckd_turn.specs.Views.{with_ticket, has_turn, waiting, refused, looking}
+use Rattle.cckd_turn.specs.Rule.{has_ticket, has_number, turns, left, IsInTurn, Fits, IsKept}
+use Rattle.cckd_turn.specs.Steps.{Sat, drawn, tried, looked}
 use Rattle.cckd_turn.specs.declared.view.Stage.{Stage}
 use Rattle.cckd_turn.specs.declared.view.Stage.TheVariants.{Idle, Waiting, Holding, Returning}
 use Rattle.cckd_turn.specs.declared.view.Terms.{Terms}
 use Rattle.cckd_turn.specs.declared.view.View.{View}
-use Rattle.cckd_turn.proofs.EntryLemmas.{total-append, total-set, one_of_total, two_of_total, none_of, as_one, as_none, each_append, each_weaker}
-use Rattle.cckd_turn.proofs.FrontLemmas.{front_self, front_trans, front_longer, front_length, front_whole}
+use Rattle.cckd_turn.proofs.EntryLemmas.{total-set, none_of, as_one, as_none}
+use Rattle.cckd_turn.proofs.FrontLemmas.{front_self}
 
 -- a sum below 2 ^ 64 doesn't wrap
 pub unwrapped : (n : ℕ) → n + 1 < 2 ^ 64 → (n + 1) % 2 ^ 64 ≡ n + 1

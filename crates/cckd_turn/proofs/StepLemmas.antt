@@ -1,11 +1,9 @@
 -- What looks tell, one after another.
-use Rattle.std.proofs.Common.{◌≡◌, ℕ, ◌+◌, ◌≤◌, List, refl, sym, ap, ◌∙◌, subst, arith, Option}
+use Rattle.std.proofs.Common.{◌≡◌, ℕ, ◌+◌, refl, ap, ◌∙◌, subst, arith}
 use mathlib.Core.List.{IsPrefix}
-use Rattle.atomic_table.specs.Table.{Step}
-use Rattle.cckd_turn.specs.Entries.{entries_of, Each, Owns}
+use Rattle.cckd_turn.specs.Entries.{Owns}
 use Rattle.cckd_turn.specs.Views.{seen_until, looking}
 use Rattle.cckd_turn.specs.Steps.{Sat, looked, HasLooked, HasWaited}
-use Rattle.cckd_turn.specs.declared.view.View.{View}
 use Rattle.cckd_turn.proofs.FrontLemmas.{front_self, front_trans}
 
 module _ {V E : Type 0} (by : E → ℕ) where

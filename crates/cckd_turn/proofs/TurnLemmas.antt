@@ -1,25 +1,25 @@
 -- The steps of the view that is served: it takes the value, puts it back, and serves the next ticket.
-use Rattle.std.proofs.Common.{◌≡◌, ◌≢◌, ℕ, zero, suc, ◌+◌, ◌-◌, ◌*◌, ◌%◌, ◌^◌, ◌<◌, ◌≤◌, List, [], ◌∷◌, ◌++◌, length, set, eqb, refl, sym, ap, ◌∙◌, subst, arith, Option, Some, length-append}
+use Rattle.std.proofs.Common.{◌≡◌, ◌≢◌, ℕ, ◌+◌, ◌*◌, ◌%◌, ◌^◌, ◌<◌, List, [], ◌∷◌, ◌++◌, length, set, eqb, refl, sym, ap, ◌∙◌, subst, arith, Option, Some, length-append}
 use Rattle.std.specs.Prelude.{slice_index, slice_set}
 use mathlib.Core.Logic.{dite}
 use native.Mathlib.Decide.{ℕ_discrete}
 use mathlib.Core.Option as maybe
 use mathlib.Core.List.{IsPrefix}
 use lib.ListN.{get_elem?}
-use Rattle.atomic_table.specs.Table.{State, Me, Step, Act, keeps, takes, gives, Valid, Allows, homes_after, carried_after}
+use Rattle.atomic_table.specs.Table.{State, Act, keeps, takes, gives, Valid, Allows, homes_after, carried_after}
 use Rattle.atomic_table.proofs.Lists.{set_here}
-use Rattle.cckd_turn.specs.Entries.{entries_of, Each, total, one_if, Owns}
+use Rattle.cckd_turn.specs.Entries.{total, one_if, Owns}
 use Rattle.cckd_turn.specs.Views.{with_ticket, has_turn, times, holding, returning, served, with_made}
-use Rattle.cckd_turn.specs.Rule.{has_ticket, has_number, turns, left, IsHome, IsInTurn, Fits, IsKept}
+use Rattle.cckd_turn.specs.Rule.{has_ticket, has_number, turns, left, IsHome, IsInTurn, IsKept}
 use Rattle.cckd_turn.specs.Steps.{Sat, took, put_back, passed_on}
 use Rattle.cckd_turn.specs.declared.view.Stage.{Stage}
 use Rattle.cckd_turn.specs.declared.view.Stage.TheVariants.{Idle, Waiting, Holding, Returning}
 use Rattle.cckd_turn.specs.declared.view.Terms.{Terms}
 use Rattle.cckd_turn.specs.declared.view.View.{View}
 use Rattle.cckd_turn.proofs.EntryLemmas.{total-set, one_of_total, two_of_total, none_of, as_one, as_none, each_append, each_weaker}
-use Rattle.cckd_turn.proofs.FrontLemmas.{front_self, front_longer, front_length, front_whole}
+use Rattle.cckd_turn.proofs.FrontLemmas.{front_self, front_longer, front_whole}
 use Rattle.cckd_turn.proofs.ViewLemmas.{times-with_made, names_of_others, names_of_maker}
-use Rattle.cckd_turn.proofs.RuleLemmas.{unwrapped, total_none, fit_after, kept_after_change}
+use Rattle.cckd_turn.proofs.RuleLemmas.{unwrapped, total_none, fit_after}
 
 module _ {V E : Type 0} (stands : V → List E → Type 0) (by : E → ℕ) (terms : Terms) where
   abbrev Homes : Type 0

@@ -1,8 +1,8 @@
 -- Numbers among names.
-use Rattle.std.proofs.Common.{◌≡◌, ◌≢◌, ℕ, zero, suc, ◌+◌, ◌≤◌, ◌<◌, List, [], ◌∷◌, ◌++◌, length, cond, eqb, refl, sym, ap, ◌∙◌, arith}
+use Rattle.std.proofs.Common.{◌≡◌, ℕ, zero, suc, ◌+◌, ◌≤◌, ◌<◌, List, [], ◌∷◌, ◌++◌, length, refl, sym, arith}
 use mathlib.Core.Logic.{dite}
 use native.Mathlib.Decide.{ℕ_discrete}
-use Rattle.cckd_turn.specs.Entries.{entries_of, Each, Owns}
+use Rattle.cckd_turn.specs.Entries.{Each, Owns}
 use Rattle.cckd_turn.specs.Views.{times, new_names, second_name, without_second, with_made}
 use Rattle.cckd_turn.proofs.EntryLemmas.{none_of, as_one, as_none, entry_of_this, entry_of_other}
 

@@ -1,5 +1,5 @@
 -- What callers see of a table, of its passes and of a value that was taken.
-use Rattle.std.specs.Prelude.{◌≡◌, ◌≢◌, ℕ, ◌+◌, ◌*◌, ◌^◌, ◌<◌, List, [], ◌∷◌, ◌++◌, length, Option, Some, None, slice_get}
+use Rattle.std.specs.Prelude.{◌≡◌, ◌≢◌, ℕ, ◌+◌, ◌*◌, ◌^◌, ◌<◌, ◌≤◌, List, [], ◌∷◌, ◌++◌, length, Option, Some, None, slice_get}
 use mathlib.Core.List.{IsPrefix}
 use Rattle.atomic_table.specs.Seated.{TableId}
 use Rattle.atomic_table.specs.declared.shared.Seat.{Seat}
@@ -151,6 +151,14 @@ module _ {V E : Type 0} where
     pub whole : entries_of by (number_of old) (seen_by new) ≡ own_of new
     pub looks : looks_of new ≡ looks_in x
     pub tries : tries_of new ≡ tries_in x
+
+  -- the pass may make this many calls
+  abbrev pub IsReady : TurnTable V E → Pass E → ℕ → Type 0
+  IsReady t p calls = IsResting t p × (calls ≤ left_of p)
+
+  -- the pass is back, after calls or none
+  abbrev pub IsBack : TurnTable V E → Pass E → Pass E → Type 0
+  IsBack t old new = IsResting t new × (number_of new ≡ number_of old)
 
   -- these are all passes of the table, and no value is out with any
   pub record AreAll (t : TurnTable V E) (passes : List (Pass E)) : Type 0 where

@@ -4,7 +4,7 @@ use mathlib.Core.Option as maybe
 use mathlib.Core.List.{IsPrefix}
 use lib.ListN.{get_elem?}
 use Rattle.atomic_table.specs.Table.{State}
-use Rattle.cckd_turn.specs.Entries.{entries_of, Each, total, one_if, Owns}
+use Rattle.cckd_turn.specs.Entries.{Each, total, one_if, Owns}
 use Rattle.cckd_turn.specs.Views.{with_ticket, has_turn, times}
 use Rattle.cckd_turn.specs.declared.view.Stage.{Stage}
 use Rattle.cckd_turn.specs.declared.view.Stage.TheVariants.{Idle, Waiting, Holding, Returning}

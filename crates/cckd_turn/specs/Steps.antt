@@ -2,7 +2,7 @@
 use Rattle.std.specs.Prelude.{◌≡◌, ◌≢◌, ℕ, ◌*◌, ◌^◌, ◌<◌, ◌≤◌, List, [], ◌∷◌, ◌++◌, length, Option, Some}
 use mathlib.Core.List.{IsPrefix}
 use Rattle.atomic_table.specs.Table.{Me, rest}
-use Rattle.cckd_turn.specs.Entries.{entries_of, Each, Owns}
+use Rattle.cckd_turn.specs.Entries.{Owns}
 use Rattle.cckd_turn.specs.Views.{waiting, refused, seen_until, looking, holding, returning, served, with_made}
 use Rattle.cckd_turn.specs.declared.view.View.{View}
 

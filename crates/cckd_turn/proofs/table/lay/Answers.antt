@@ -1,7 +1,4 @@
-use Rattle.std.proofs.Common.{ap, ◌∙◌, ◌∷◌, [], ◌++◌, Some, sym, subst, List}
-use Rattle.atomic_table.specs.Table.{opening}
-use Rattle.cckd_turn.specs.Views.{opening_view}
-use Rattle.cckd_turn.specs.Rule.{IsKept}
+use Rattle.std.proofs.Common.{ap, ◌∙◌, ◌∷◌, [], ◌++◌, Some}
 use Rattle.cckd_turn.proofs.DealLemmas.{opens}
 use Rattle.cckd_turn.proofs.table.lay.Goals as goal
 

@@ -1,4 +1,4 @@
-use Rattle.std.proofs.Common.{arith, sym, ap, ◌∙◌, length}
+use Rattle.std.proofs.Common.{arith, ap, ◌∙◌, length}
 use Rattle.cckd_turn.proofs.RuleLemmas.{draws}
 use Rattle.cckd_turn.proofs.table.TurnTable.enter.Goals as goal
 

@@ -1,6 +1,5 @@
-use Rattle.std.proofs.Common.{◌≡◌, ◌⊎◌, inl, inr, ⊎_elim, [], ◌∷◌, length, Some, arith, refl, sym, ap, ◌∙◌, subst}
+use Rattle.std.proofs.Common.{◌≡◌, inl, inr, ⊎_elim, [], ◌∷◌, length, Some, arith, sym, ap, ◌∙◌, subst}
 use Rattle.std.specs.Prelude.{slice_get}
-use Rattle.cckd_turn.specs.Passes.{IsResting}
 use Rattle.cckd_turn.specs.Gathered.{HasTakenIn}
 use Rattle.cckd_turn.proofs.DealLemmas.{joins}
 use Rattle.cckd_turn.proofs.PassLemmas.{get_after_push, get_pushed, get_kept}

@@ -1,4 +1,4 @@
-use Rattle.std.proofs.Common.{arith, sym, ap, ◌∙◌, subst, [], ◌∷◌, ◌++◌, Some, refl}
+use Rattle.std.proofs.Common.{arith, sym, ap, ◌∙◌, subst, [], ◌∷◌, ◌++◌}
 use Rattle.atomic_table.specs.Table.{rest}
 use Rattle.cckd_turn.proofs.TurnLemmas.{puts_back_as, passes_on}
 use Rattle.cckd_turn.proofs.table.TurnTable.leave.Goals as goal

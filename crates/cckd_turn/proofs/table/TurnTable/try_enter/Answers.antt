@@ -1,4 +1,4 @@
-use Rattle.std.proofs.Common.{arith, sym, ap, ◌∙◌, length, refl}
+use Rattle.std.proofs.Common.{arith, ap, ◌∙◌, length}
 use Rattle.cckd_turn.proofs.RuleLemmas.{looks, tries}
 use Rattle.cckd_turn.proofs.table.TurnTable.try_enter.Goals as goal
 

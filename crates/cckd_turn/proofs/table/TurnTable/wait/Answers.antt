@@ -1,7 +1,6 @@
-use Rattle.std.proofs.Common.{arith, sym, ap, ◌∙◌, refl}
-use Rattle.cckd_turn.proofs.FrontLemmas.{front_self}
+use Rattle.std.proofs.Common.{arith, ◌∙◌, refl}
 use Rattle.cckd_turn.proofs.RuleLemmas.{looks}
-use Rattle.cckd_turn.proofs.StepLemmas.{not_yet_looked, looks_again, has_waited}
+use Rattle.cckd_turn.proofs.StepLemmas.{not_yet_looked}
 use Rattle.cckd_turn.proofs.table.TurnTable.wait.Goals as goal
 
 pub load-serving-requires : goal.load-serving-requires
