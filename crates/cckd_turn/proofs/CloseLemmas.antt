@@ -8,7 +8,7 @@ use Rattle.atomic_table.specs.Table.{State}
 use Rattle.cckd_turn.specs.Entries.{entries_of, Each}
 use Rattle.cckd_turn.specs.Views.{times, joined}
 use Rattle.cckd_turn.specs.Rule.{IsKept}
-use Rattle.cckd_turn.specs.Passes.{view_of, number_of, own_of, seen_by, callers_of, IsResting, AreAll, Closes}
+use Rattle.cckd_turn.specs.Passes.{view_of, number_of, own_of, seen_by, callers_of, AreAll, Closes}
 use Rattle.cckd_turn.specs.Gathered.{Among, HasTakenIn, HasAll}
 use Rattle.cckd_turn.specs.declared.view.View.{View}
 use Rattle.cckd_turn.specs.declared.pass.Pass.{Pass}
@@ -80,18 +80,3 @@ module _ {V E : Type 0} (stands : V → List E → Type 0) (by : E → ℕ) (t :
           no_others = λ j e there. all.every (by e) (each_get (λ x. by x < callers_of t) k.log j e k.named there);
         },
       )
-
--- the two passes of a table with two
-module _ {V E : Type 0} (t : TurnTable V E) where
-  pub all_of_two : (first second : Pass E) (passes : List (Pass E)) → callers_of t ≡ 2 → IsResting t first × (number_of first ≡ 0) → IsResting t second × (number_of second ≡ 1) → passes ≡ first ∷ second ∷ [] → AreAll t passes
-  all_of_two first second passes two a b is = subst (AreAll t) (sym is) (record { resting = resting; every = every })
-    where
-      resting : (k : ℕ) (p : Pass E) → slice_get (first ∷ second ∷ []) k ≡ Some p → IsResting t p
-      resting zero p at = let same : first ≡ p = cc at in subst (IsResting t) same a.0
-      resting (suc zero) p at = let same : second ≡ p = cc at in subst (IsResting t) same b.0
-      resting (suc (suc k)) p at = absurd (cc at)
-
-      every : (n : ℕ) → n < callers_of t → (k : ℕ) × (p : Pass E) × (slice_get (first ∷ second ∷ []) k ≡ Some p) × (number_of p ≡ n)
-      every zero below = (0, first, refl, a.1)
-      every (suc zero) below = (1, second, refl, b.1)
-      every (suc (suc n)) below = absurd (omega arith)

@@ -7,3 +7,4 @@ pub mod DealLemmas
 pub mod StepLemmas
 pub mod PassLemmas
 pub mod CloseLemmas
+pub mod CallerLemmas

@@ -50,7 +50,8 @@ impl<E> Pass<E> {
     // A pass that has seen nothing.
     pub(crate) fn new<S>(number: u64, left: u64, seat: Seat<S, View<E>>) -> Pass<E>
         requires { seat.me.1 ≡ [] }
-        ensures seat { (result.badge.views ≡ seat.me.0 ∷ []) × (result.badge.table_id ≡ seat.table_id) }
+        ensures seat { (result.badge.views ≡ seat.me.0 ∷ [])
+            × (result.badge.table_id ≡ seat.table_id) }
         ensures fields { (result.number ≡ number) × (result.left ≡ left) × (result.front ≡ 0) }
     {
         Pass {
@@ -77,17 +78,21 @@ impl<E> Pass<E> {
     // The pass's seat, without which it is until `sit`.
     pub(crate) fn rise<S>(&mut self) -> Seat<S, View<E>>
         requires { self.old.badge.views ≡ view_of self.old ∷ [] }
-        ensures seat { (result.table_id ≡ self.old.badge.table_id) × (result.me ≡ (view_of self.old, [])) }
+        ensures seat { (result.table_id ≡ self.old.badge.table_id)
+            × (result.me ≡ (view_of self.old, [])) }
         ensures out { self.new.badge.views ≡ [] }
-        ensures fields { (self.new.number ≡ self.old.number) × (self.new.left ≡ self.old.left) × (self.new.front ≡ self.old.front) }
+        ensures fields { (self.new.number ≡ self.old.number) × (self.new.left ≡ self.old.left)
+            × (self.new.front ≡ self.old.front) }
     {
         replace(&mut self.badge, Badge::blank()).into_seat()
     }
 
     pub(crate) fn sit<S>(&mut self, seat: Seat<S, View<E>>, front: u64)
         requires { seat.me.1 ≡ [] }
-        ensures seat { (self.new.badge.views ≡ seat.me.0 ∷ []) × (self.new.badge.table_id ≡ seat.table_id) }
-        ensures fields { (self.new.number ≡ self.old.number) × (self.new.left ≡ self.old.left) × (self.new.front ≡ front) }
+        ensures seat { (self.new.badge.views ≡ seat.me.0 ∷ [])
+            × (self.new.badge.table_id ≡ seat.table_id) }
+        ensures fields { (self.new.number ≡ self.old.number) × (self.new.left ≡ self.old.left)
+            × (self.new.front ≡ front) }
     {
         self.badge = seat.into_badge();
         self.front = front;
@@ -96,7 +101,8 @@ impl<E> Pass<E> {
     pub(crate) fn count_call(&mut self)
         requires { 0 < self.old.left }
         ensures count { self.new.left + 1 ≡ self.old.left }
-        ensures fields { (self.new.badge ≡ self.old.badge) × (self.new.number ≡ self.old.number) × (self.new.front ≡ self.old.front) }
+        ensures fields { (self.new.badge ≡ self.old.badge) × (self.new.number ≡ self.old.number)
+            × (self.new.front ≡ self.old.front) }
     {
         self.left -= 1;
     }

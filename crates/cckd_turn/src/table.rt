@@ -31,7 +31,8 @@ fn lay<V: Stands>(
     requires calls { terms.now.callers * terms.now.each < 2 ^ 63 }
     requires empty { V.stands value [] }
     ensures table { IfOk result (λ made. made.0.table.shared.key ≡ terms.now) }
-    ensures seat { IfOk result (λ made. (made.1.table_id ≡ made.0.table.shared.table_id) × (made.1.me ≡ (opening_view terms.now, []))) }
+    ensures seat { IfOk result (λ made. (made.1.table_id ≡ made.0.table.shared.table_id)
+        × (made.1.me ≡ (opening_view terms.now, []))) }
     ensures back { IfErr result (λ refused. refused ≡ value) }
 {
     let Ok(mut slots) = Vec::with_capacity(alloc, 1) else {
@@ -90,7 +91,8 @@ impl<V: Stands> TurnTable<V> {
         terms: Terms,
     ) -> Vec<Pass<V::Entry>>
         requires terms { terms ≡ self.now.table.shared.key }
-        requires seat { (seat.table_id ≡ table_id_of self.now) × (seat.me ≡ (opening_view terms, [])) }
+        requires seat { (seat.table_id ≡ table_id_of self.now)
+            × (seat.me ≡ (opening_view terms, [])) }
         requires room { (passes.items ≡ []) × (terms.callers ≤ vec_capacity passes) }
         ensures { AreDealt self.now terms.callers terms.each result.items }
     {

@@ -50,7 +50,8 @@ fn finish<C: Caller>(
     requires stands { taken.value.count ≡ length (seen_in taken) }
     requires room { HasRoom table.now (seen_in taken) }
     ensures back { IsResting table.now pass.new }
-    ensures same { (number_of pass.new ≡ number_of pass.old) × (left_of pass.new ≡ left_of pass.old) }
+    ensures same { (number_of pass.new ≡ number_of pass.old)
+        × (left_of pass.new ≡ left_of pass.old) }
     ensures place { result.place ≡ length (seen_by pass.new) }
 {
     taken.value.count += 1;
@@ -61,7 +62,8 @@ fn count<R: Wait>(rt: &R, table: &TurnTable<Counter>, pass: &mut Pass<u64>) -> R
     requires own { IsResting table.now pass.old }
     requires calls { 0 < left_of pass.old }
     ensures back { IsResting table.now pass.new }
-    ensures same { (number_of pass.new ≡ number_of pass.old) × (left_of pass.new + 1 ≡ left_of pass.old) }
+    ensures same { (number_of pass.new ≡ number_of pass.old)
+        × (left_of pass.new + 1 ≡ left_of pass.old) }
     ensures place { result.place ≡ length (seen_by pass.new) }
 {
     let taken = table.enter(rt, pass);
@@ -95,7 +97,8 @@ fn opened(
     calls_each: u64,
 ) -> Result<(TurnTable<Counter>, Pass<u64>, Pass<u64>), Fail>
     requires { calls_each < 2 ^ 62 }
-    ensures { IfOk result (λ r. (callers_of r.0 ≡ 2) × (calls_each_of r.0 ≡ calls_each) × IsNew r.0 0 r.1 × IsNew r.0 1 r.2) }
+    ensures { IfOk result (λ r. (callers_of r.0 ≡ 2) × (calls_each_of r.0 ≡ calls_each)
+        × IsNew r.0 0 r.1 × IsNew r.0 1 r.2) }
 {
     match TurnTable::new(alloc, Counter { count: 0 }, 2, calls_each) {
         Ok((table, passes)) => match pair(passes) {
@@ -159,7 +162,8 @@ fn try_during_turn(
     requires first { IsResting table.now first.old × (0 < left_of first.old) }
     requires second { IsResting table.now second.old × (0 < left_of second.old) }
     ensures first { IsResting table.now first.new × (number_of first.new ≡ number_of first.old) }
-    ensures second { IsResting table.now second.new × (number_of second.new ≡ number_of second.old) }
+    ensures second { IsResting table.now second.new
+        × (number_of second.new ≡ number_of second.old) }
 {
     match table.try_enter(first) {
         Ok(taken) => {
@@ -210,8 +214,10 @@ fn count_beside<R: Threads + Wait + Sync>(
     table: &TurnTable<Counter>,
     workers: &mut [Worker],
 )
-    requires { (i : ℕ) (w : _) → i < length workers.old → w ≡ slice_index_or workers.old i w → IsReady table.now w.pass (vec_len w.places) }
-    ensures { (i : ℕ) (w : _) → i < length workers.old → IsBack table.now (slice_index_or workers.old i w).pass (slice_index_or workers.new i w).pass }
+    requires { (i : ℕ) (w : _) → i < length workers.old → w ≡ slice_index_or workers.old i w
+        → IsReady table.now w.pass (vec_len w.places) }
+    ensures { (i : ℕ) (w : _) → i < length workers.old
+        → IsBack table.now (slice_index_or workers.old i w).pass (slice_index_or workers.new i w).pass }
 {
     thread::for_each_mut(
         rt,

@@ -45,11 +45,13 @@ impl<V: Stands> TurnTable<V> {
         ensures enters { IfOk result (λ x. Enters V.by pass.old pass.new x) }
         ensures stands { IfOk result (λ x. V.stands x.value (seen_in x)) }
         ensures room { IfOk result (λ x. HasRoom self.now (seen_in x)) }
-        ensures counts { IfOk result (λ x. (looks_in x ≡ looks_of pass.old + 1) × (tries_in x ≡ tries_of pass.old)) }
+        ensures counts { IfOk result (λ x. (looks_in x ≡ looks_of pass.old + 1)
+            × (tries_in x ≡ tries_of pass.old)) }
 
         // Busy has the two numbers that this call read, of which the ticket was another than the one served.
         ensures busy { IfErr result (λ b. IsBusy pass.new b.serving b.ticket) }
-        ensures tried { OnErr result ((looks_of pass.new ≡ looks_of pass.old + 1) × (tries_of pass.new ≡ tries_of pass.old + 1)) }
+        ensures tried { OnErr result ((looks_of pass.new ≡ looks_of pass.old + 1)
+            × (tries_of pass.new ≡ tries_of pass.old + 1)) }
         ensures back { OnErr result (IsResting self.now pass.new) }
         ensures stays { OnErr result (Stays V.by pass.old pass.new) }
     {
@@ -114,9 +116,12 @@ impl<V: Stands> TurnTable<V> {
     // Takes the value for a seat whose ticket is served.
     fn take(&self, mut seat: Seat<Option<V>, View<V::Entry>>) -> Taken<V>
         requires table { seat.table_id ≡ table_id_of self.now }
-        requires served { (seat.me.1 ≡ []) × (seat.me.0.stage ≡ Waiting) × (seat.me.0.ticket ≡ length seat.me.0.seen) }
-        requires terms { (seat.me.0.callers ≡ callers_of self.now) × (seat.me.0.each ≡ calls_each_of self.now) }
-        ensures seat { (result.seat.table_id ≡ seat.table_id) × (result.seat.me ≡ (holding seat.me.0, (0, None) ∷ [])) }
+        requires served { (seat.me.1 ≡ []) × (seat.me.0.stage ≡ Waiting)
+            × (seat.me.0.ticket ≡ length seat.me.0.seen) }
+        requires terms { (seat.me.0.callers ≡ callers_of self.now)
+            × (seat.me.0.each ≡ calls_each_of self.now) }
+        ensures seat { (result.seat.table_id ≡ seat.table_id)
+            × (result.seat.me ≡ (holding seat.me.0, (0, None) ∷ [])) }
         ensures stands { V.stands result.value seat.me.0.seen }
         ensures room { HasRoom self.now seat.me.0.seen }
     {

@@ -1,5 +1,5 @@
 use Rattle.std.proofs.Common.{[], ◌∷◌, ◌++◌, ap, ◌∙◌}
-use Rattle.cckd_turn.proofs.CloseLemmas.{all_of_two}
+use Rattle.cckd_turn.proofs.CallerLemmas.{all_of_two}
 use Rattle.cckd_turn.proofs.tests.closed.Goals as goal
 
 pub close-requires : goal.close-requires
