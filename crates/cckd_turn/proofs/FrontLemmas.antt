@@ -18,9 +18,6 @@ module _ {A : Type 0} where
   pub front_longer : (xs ys zs : List A) → IsPrefix xs ys → IsPrefix xs (ys ++ zs)
   front_longer xs ys zs p = front_trans xs ys (ys ++ zs) p (front_append ys zs)
 
-  pub front_length : (xs ys : List A) → IsPrefix xs ys → length xs ≤ length ys
-  front_length xs ys p = omega (arith, sym (length-append xs p.0) ∙ ap length p.1)
-
   pub front_whole : (xs ys : List A) → IsPrefix xs ys → length ys ≤ length xs → xs ≡ ys
   front_whole xs ys p le = none p.0 (omega (arith, sym (length-append xs p.0) ∙ ap length p.1)) p.1
     where

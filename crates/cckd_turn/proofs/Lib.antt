@@ -4,7 +4,6 @@ pub mod ViewLemmas
 pub mod RuleLemmas
 pub mod TurnLemmas
 pub mod DealLemmas
-pub mod StepLemmas
 pub mod PassLemmas
 pub mod CloseLemmas
 pub mod CallerLemmas

@@ -1,7 +1,7 @@
 -- The passes of a new table.
-use Rattle.std.proofs.Common.{◌≡◌, ◌⊎◌, inl, inr, ⊎_elim, ℕ, zero, suc, ◌+◌, ◌-◌, ◌*◌, ◌≤◌, List, [], ◌∷◌, ◌++◌, length, refl, sym, ap, ◌∙◌, arith, Some, suc-mul}
+use Rattle.std.proofs.Common.{◌≡◌, ◌⊎◌, inl, inr, ⊎_elim, ℕ, zero, suc, ◌+◌, ◌-◌, ◌*◌, ◌≤◌, List, [], ◌∷◌, ◌++◌, length, refl, sym, ap, ◌∙◌, subst, arith, Some, suc-mul}
 use Rattle.std.specs.Prelude.{slice_get}
-use Rattle.cckd_turn.specs.Views.{first_own, new_names, blank, opening_view, after_dealing}
+use Rattle.cckd_turn.specs.Views.{first_own, new_names, blank, after_dealing}
 use Rattle.cckd_turn.specs.Passes.{known, view_of, callers_of, calls_each_of, table_id_of, IsNew}
 use Rattle.cckd_turn.specs.declared.view.Terms.{Terms}
 use Rattle.cckd_turn.specs.declared.view.View.{View}
@@ -24,21 +24,30 @@ get_kept [] ys x k at = absurd (cc at)
 get_kept (z ∷ zs) ys x zero at = at
 get_kept (z ∷ zs) ys x (suc k) at = get_kept zs ys x k at
 
+-- what holds of all elements holds of the last, and of the others
+module _ {A : Type 0} (P : A → Type 0) (all rest : List A) (x : A) (is : all ≡ rest ++ x ∷ []) (each : (k : ℕ) (y : A) → slice_get all k ≡ Some y → P y) where
+  pub last_of_all : P x
+  last_of_all = each (length rest) x (subst (λ (xs : List A). slice_get xs (length rest) ≡ Some x) (sym is) (get_pushed rest x))
+
+  pub others_of_all : (k : ℕ) (y : A) → slice_get rest k ≡ Some y → P y
+  others_of_all k y at = each k y (subst (λ (xs : List A). slice_get xs k ≡ Some y) (sym is) (get_kept rest (x ∷ []) y k at))
+
 module _ {E : Type 0} where
   -- the dealer's view, once the numbers below `number` are dealt and `others` are left beside its own
   abbrev pub dealing : Terms → ℕ → ℕ → View E
   dealing t number others = blank t.callers t.each (suc others * t.each) ((t.callers - 1, []) ∷ new_names number others)
 
-  pub opening_is_dealing : (t : Terms) (others : ℕ) → t.callers ≡ suc others → opening_view {E = E} t ≡ dealing t 0 others
-  opening_is_dealing t others e =
-      let last : t.callers - 1 ≡ others = omega arith in
-      ap (λ (n : ℕ). blank t.callers t.each (n * t.each) ((t.callers - 1, []) ∷ new_names 0 (t.callers - 1))) e
-      ∙ ap (λ (n : ℕ). blank t.callers t.each (suc others * t.each) ((t.callers - 1, []) ∷ new_names 0 n)) last
-
   pub dealing_goes_on : (t : Terms) (number others : ℕ) → after_dealing (dealing t number (suc others)) ≡ dealing t (number + 1) others
   dealing_goes_on t number others =
       let lower : suc (suc others) * t.each - t.each ≡ suc others * t.each = (let more = suc-mul (suc others) t.each in omega arith) in
       ap (λ (n : ℕ). blank t.callers t.each n ((t.callers - 1, []) ∷ new_names (number + 1) others)) lower
+
+  pub dealer_goes_on : {X : Type 0} (t : Terms) (number others : ℕ) (v : View E) (held : List X) (now : View E × List X) → v ≡ dealing t number (suc others) → held ≡ [] → now ≡ (after_dealing v, held)
+      → now ≡ (dealing t (number + 1) others, [])
+  dealer_goes_on {X} t number others v held now is none e =
+      e
+      ∙ (ap (λ (u : View E). (after_dealing u, held)) is
+      ∙ (ap (λ (u : View E). (u, held)) (dealing_goes_on t number others) ∙ ap (λ (h : List X). (dealing t (number + 1) others, h)) none))
 
   pub enough_left : (t : Terms) (number others : ℕ) (v : View E) → v ≡ dealing t number others → v.each ≤ v.left
   enough_left t number others v e =

@@ -15,4 +15,3 @@ pub use crossing::cross_threads;
 pub use pass::{Busy, Pass, Receipt, Taken};
 pub use stands::{Adds, Stands};
 pub use table::{Memory, TurnTable};
-pub use view::View;

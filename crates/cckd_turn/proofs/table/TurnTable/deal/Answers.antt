@@ -1,9 +1,9 @@
 use Rattle.std.proofs.Common.{◌≡◌, suc, ◌+◌, ◌-◌, ⊎_elim, Some, arith, sym, ap, ◌∙◌, subst}
 use Rattle.std.specs.Prelude.{slice_get}
-use Rattle.cckd_turn.specs.Views.{after_dealing, dealt}
+use Rattle.cckd_turn.specs.Views.{dealt}
 use Rattle.cckd_turn.specs.Passes.{IsNew}
 use Rattle.cckd_turn.proofs.DealLemmas.{deals}
-use Rattle.cckd_turn.proofs.PassLemmas.{dealing, dealing_goes_on, enough_left, get_after_push, made_new, last_dealt}
+use Rattle.cckd_turn.proofs.PassLemmas.{dealing, dealer_goes_on, enough_left, get_after_push, made_new, last_dealt}
 use Rattle.cckd_turn.proofs.table.TurnTable.deal.Goals as goal
 
 pub split_seat-other-requires : goal.split_seat-other-requires
@@ -26,7 +26,7 @@ loop-number-preserved g c =
     let me = ap (λ m. m.0) i.me ∙ ap (dealing c.args.terms number) more in
     record {
       table = s.0 ∙ i.table;
-      me = s.2 ∙ (ap (λ v. (after_dealing v, c.loop-number.seat.me.1)) me ∙ (ap (λ v. (v, c.loop-number.seat.me.1)) (dealing_goes_on c.args.terms number others) ∙ ap (λ h. (dealing c.args.terms (number + 1) others, h)) (ap (λ m. m.1) i.me)));
+      me = dealer_goes_on c.args.terms number others _ _ _ me (ap (λ m. m.1) i.me) s.2;
       count = omega arith;
       room = omega arith;
       new = λ k p at. ⊎_elim

@@ -1,8 +1,9 @@
-use Rattle.std.proofs.Common.{◌≡◌, inl, inr, ⊎_elim, [], ◌∷◌, length, Some, arith, sym, ap, ◌∙◌, subst}
+use Rattle.std.proofs.Common.{◌≡◌, inl, inr, ⊎_elim, Some, arith, ap, ◌∙◌, sym, subst}
 use Rattle.std.specs.Prelude.{slice_get}
+use Rattle.cckd_turn.specs.Passes.{IsResting}
 use Rattle.cckd_turn.specs.Gathered.{HasTakenIn}
 use Rattle.cckd_turn.proofs.DealLemmas.{joins}
-use Rattle.cckd_turn.proofs.PassLemmas.{get_after_push, get_pushed, get_kept}
+use Rattle.cckd_turn.proofs.PassLemmas.{get_after_push, last_of_all, others_of_all}
 use Rattle.cckd_turn.proofs.CloseLemmas.{first_taken_in, still_taken_in, newly_taken_in}
 use Rattle.cckd_turn.proofs.table.TurnTable.gather.Goals as goal
 
@@ -11,12 +12,12 @@ loop-pass-init g c =
     let items = c.in-Some.ensures.items in
     let rest = c.pop.new.self.items in
     let first = c.in-Some.first in
-    let r = c.requires.resting (length rest) first (subst (λ xs. slice_get xs (length rest) ≡ Some first) (sym items) (get_pushed rest first)) in
+    let r = last_of_all (IsResting c.args.self.now) c.args.passes.items rest first items c.requires.resting in
     let seat = c.rise-seat.ensures.seat in
     record {
       table = seat.0 ∙ r.table;
       idle = ap (λ m. m.0.stage) seat.1 ∙ r.idle;
-      resting = λ k p at. c.requires.resting k p (subst (λ xs. slice_get xs k ≡ Some p) (sym items) (get_kept rest (first ∷ []) p k at));
+      resting = others_of_all (IsResting c.args.self.now) c.args.passes.items rest first items c.requires.resting;
       each = λ k p at. ⊎_elim
           (λ was. inl (k, was))
           (λ t. inr (subst (λ q. HasTakenIn q c.rise-seat.result.me.0) t.1 (first_taken_in first c.rise-seat.result.me.0 (ap (λ m. m.0) seat.1) r.name)))
@@ -25,19 +26,13 @@ loop-pass-init g c =
 
 pub rise-requires : goal.rise-requires
 rise-requires g c =
-    let items = c.in-Some-pop.ensures.items in
-    let rest = c.pop-in-loop-pass.new.self.items in
-    let pass = c.in-Some-pop.pass in
-    (c.loop-pass.invariant.resting (length rest) pass (subst (λ xs. slice_get xs (length rest) ≡ Some pass) (sym items) (get_pushed rest pass))).here
+    (last_of_all (IsResting c.args.self.now) c.loop-pass.passes.items c.pop-in-loop-pass.new.self.items c.in-Some-pop.pass c.in-Some-pop.ensures.items c.loop-pass.invariant.resting).here
 
 pub join_seat-requires : goal.join_seat-requires
 join_seat-requires g c =
     let words = c.args.self.now.words in
     let i = c.loop-pass.invariant in
-    let items = c.in-Some-pop.ensures.items in
-    let rest = c.pop-in-loop-pass.new.self.items in
-    let pass = c.in-Some-pop.pass in
-    let r = i.resting (length rest) pass (subst (λ xs. slice_get xs (length rest) ≡ Some pass) (sym items) (get_pushed rest pass)) in
+    let r = last_of_all (IsResting c.args.self.now) c.loop-pass.passes.items c.pop-in-loop-pass.new.self.items c.in-Some-pop.pass c.in-Some-pop.ensures.items i.resting in
     let other = c.rise.ensures.seat in (
       i.table,
       other.0 ∙ r.table,
@@ -52,21 +47,19 @@ loop-pass-preserved g c =
     let items = c.in-Some-pop.ensures.items in
     let rest = c.pop-in-loop-pass.new.self.items in
     let pass = c.in-Some-pop.pass in
-    let r = i.resting (length rest) pass (subst (λ xs. slice_get xs (length rest) ≡ Some pass) (sym items) (get_pushed rest pass)) in
+    let r = last_of_all (IsResting c.args.self.now) c.loop-pass.passes.items rest pass items i.resting in
     let other = c.rise.ensures.seat in
     let j = c.join_seat.ensures in
-    let v = c.loop-pass.seat.me.0 in
-    let x = c.rise.result.me.0 in
     let view = ap (λ m. m.0) j.2 in
     record {
       table = j.0 ∙ i.table;
       idle = ap (λ m. m.0.stage) j.2 ∙ i.idle;
-      resting = λ k p at. i.resting k p (subst (λ xs. slice_get xs k ≡ Some p) (sym items) (get_kept rest (pass ∷ []) p k at));
+      resting = others_of_all (IsResting c.args.self.now) c.loop-pass.passes.items rest pass items i.resting;
       each = λ k p at. ⊎_elim
           (λ here. ⊎_elim
           (λ was. inl (here.0, was))
-          (λ t. inr (subst (λ q. HasTakenIn q c.join_seat.new.seat.me.0) t.1 (subst (HasTakenIn pass) (sym view) (newly_taken_in pass v x (ap (λ m. m.0) other.1) r.name))))
+          (λ t. inr (subst (λ q. HasTakenIn q c.join_seat.new.seat.me.0) t.1 (subst (HasTakenIn pass) (sym view) (newly_taken_in pass c.loop-pass.seat.me.0 c.rise.result.me.0 (ap (λ m. m.0) other.1) r.name))))
           (get_after_push rest pass p here.0 (subst (λ xs. slice_get xs here.0 ≡ Some p) items here.1)))
-          (λ taken. inr (subst (HasTakenIn p) (sym view) (still_taken_in p v x taken)))
+          (λ taken. inr (subst (HasTakenIn p) (sym view) (still_taken_in p c.loop-pass.seat.me.0 c.rise.result.me.0 taken)))
           (i.each k p at);
     }
