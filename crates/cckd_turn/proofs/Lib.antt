@@ -1,0 +1,9 @@
+pub mod EntryLemmas
+pub mod FrontLemmas
+pub mod ViewLemmas
+pub mod RuleLemmas
+pub mod TurnLemmas
+pub mod DealLemmas
+pub mod PassLemmas
+pub mod CloseLemmas
+pub mod CallerLemmas
