@@ -5,7 +5,9 @@ mod arena;
 mod frames;
 mod nodes;
 mod part;
+mod sending;
 #[cfg(test)]
 mod tests;
 
 pub use frames::{Frame, Frames, Memory};
+pub use sending::frames_are_send;
