@@ -1,0 +1,11 @@
+pub mod Bytes
+pub mod Calls
+pub mod Contents
+pub mod Entries
+pub mod Lends
+pub mod Parts
+pub mod Rings
+pub mod States
+pub mod Tables
+pub mod Trails
+pub mod Writes

@@ -1,0 +1,50 @@
+-- The words of the nodes, and how they are linked. Only this crate's own functions speak of them.
+use Rattle.std.specs.Prelude.{◌≡◌, ℕ, zero, suc, ◌+◌, ◌*◌, ◌⊎◌, ◌==◌, if◌then◌else◌, List, [], ◌∷◌, get_or, set}
+
+-- word c of node x
+abbrev pub word : List ℕ → ℕ → ℕ → ℕ
+word ws c x = get_or ws (9 * x + c) 0
+
+-- the words with v as word c of node x
+abbrev pub with_word : List ℕ → ℕ → ℕ → ℕ → List ℕ
+with_word ws c x v = set ws (9 * x + c) v
+
+-- x is in the list
+abbrev pub In : ℕ → List ℕ → Type 0
+In x [] = ⊥
+In x (y ∷ ys) = (x ≡ y) ⊎ In x ys
+
+-- no number comes twice
+abbrev pub IsApart : List ℕ → Type 0
+IsApart [] = Unit {0}
+IsApart (x ∷ xs) = (In x xs → ⊥) × IsApart xs
+
+-- the list without the first x in it
+abbrev pub leave_out : ℕ → List ℕ → List ℕ
+leave_out x [] = []
+leave_out x (y ∷ ys) = if x == y then ys else y ∷ leave_out x ys
+
+-- from node a through the list to node z, each node names the next in word c, and the one before it in word d
+abbrev pub IsPath : ℕ → ℕ → List ℕ → ℕ → List ℕ → ℕ → Type 0
+IsPath c d ws a [] z = (word ws c a ≡ z) × (word ws d z ≡ a)
+IsPath c d ws a (x ∷ xs) z = (word ws c a ≡ x) × (word ws d x ≡ a) × IsPath c d ws x xs z
+
+-- the n nodes after a, as word c of each names the next
+abbrev pub trail : List ℕ → ℕ → ℕ → ℕ → List ℕ
+trail ws c a zero = []
+trail ws c a (suc n) = word ws c a ∷ trail ws c (word ws c a) n
+
+-- a ring from node a back to it, through the nodes of which P holds, each once
+pub record IsRing (c d : ℕ) (ws : List ℕ) (a : ℕ) (P : ℕ → Type 0) (xs : List ℕ) : Type 0 where
+  pub path : IsPath c d ws a xs a
+  pub apart : IsApart (a ∷ xs)
+  pub only : (x : ℕ) → In x xs → P x
+  pub each : (x : ℕ) → P x → In x xs
+
+-- node x taken out of its ring
+abbrev pub unlinked : ℕ → ℕ → ℕ → List ℕ → List ℕ
+unlinked c d x ws = with_word (with_word ws c (word ws d x) (word ws c x)) d (word ws c x) (word ws d x)
+
+-- node x put into a ring after node a
+abbrev pub linked : ℕ → ℕ → ℕ → ℕ → List ℕ → List ℕ
+linked c d a x ws = with_word (with_word (with_word (with_word ws d x a) c x (word ws c a)) d (word ws c a) x) c a x

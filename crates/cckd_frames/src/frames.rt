@@ -1,0 +1,211 @@
+//! The list by recency, over the nodes and the bytes of the arena.
+ghost use Rattle.std.specs.Prelude.{◌≡◌, ◌<◌, ◌≤◌, ◌-◌, ◌↔◌, [], ◌∷◌, length, take, slice_get, IfOk, IfSome, IsNone, IsSome, option_map};
+ghost use Rattle.std.specs.Borrow.{sem};
+
+use crate::arena::Arena;
+use crate::nodes::{
+    WORDS, bring, choose, clear, enter, frame_at, frame_with, key_of, last_frame, len_of, mark_at,
+    put_len, put_mark,
+};
+use std::alloc::{AllocError, Global};
+use std::marker::Model;
+
+/// There was no memory.
+pub type Memory = AllocError;
+
+/// The number of a frame.
+#[derive(Clone, Copy, PartialEq, Eq, Debug)]
+pub struct Frame(pub u32);
+
+/// A bounded list of entries, most recent first. Each has a key, a mark and bytes, and lies in a
+/// frame of its own. Only `new` takes memory.
+#[derive(Drop)]
+pub struct Frames {
+    arena: Arena,
+    count: u32,
+    frame_len: u32,
+    // The frames in use are those below this number.
+    used: u32,
+}
+
+impl Model for Frames {
+    ghost use Rattle.cckd_frames.specs.Frames.{Kept};
+
+    ghost Value = { Kept };
+
+    ghost use Rattle.cckd_frames.specs.Table.{entries_of, IsSound};
+
+    ghost view = { λ f. record { count = f.count; frame_len = f.frame_len; entries = entries_of f.count f.frame_len f.used f.arena.words f.arena.bytes } };
+
+    ghost invariant = { λ f. IsSound f.count f.frame_len f.used f.arena.words f.arena.bytes };
+}
+
+impl Frames {
+    ghost use Rattle.cckd_frames.specs.Frames.{IsKept, with_entries, keys, entry_of, entry_in, frame_of, IsUsed, promoted, blank, with_mark, with_len};
+    ghost use Rattle.cckd_frames.specs.LendingBody.{LendsBody};
+
+    /// `count` frames of `frame_len` bytes each, none in use.
+    pub fn new(alloc: Global, count: u32, frame_len: u32) -> Result<Frames, Memory>
+        requires count { (1 ≤ count) × (count ≤ 4096) }
+        requires frame_len { (1 ≤ frame_len) × (frame_len ≤ 65536) }
+        ensures empty { IfOk result (λ f. f ≡ record { count = count; frame_len = frame_len; entries = [] }) }
+        ensures kept { IfOk result IsKept }
+    {
+        let nodes = 2 * count as usize + 1;
+        let bytes = count as usize * frame_len as usize;
+        let mut arena = Arena::new(alloc, WORDS * nodes, bytes)?;
+        clear(arena.words_mut(), count);
+        Ok(Frames {
+            arena,
+            count,
+            frame_len,
+            used: 0,
+        })
+    }
+
+    /// The frame of the entry with this key, which comes first from then on.
+    pub fn find(&mut self, key: u32) -> Option<Frame>
+        ensures found { option_map (λ f. f.0) result ≡ frame_of key self.old.entries }
+        ensures order { self.new ≡ with_entries self.old (promoted key self.old.entries) }
+
+        // For the next call: the frame is in use, or the key is not there.
+        ensures used { IfSome result (λ f. IsUsed f.0 self.new.entries) }
+        ensures absent { IsNone result → IsNone (entry_of key self.new.entries) }
+        ensures kept { IsKept self.new }
+    {
+        let count = self.count;
+        let Some(frame) = frame_with(self.arena.words(), count, key) else {
+            return None;
+        };
+        bring(self.arena.words_mut(), count, frame);
+        Some(Frame(frame))
+    }
+
+    /// The frame of the entry with this key. The order stays.
+    pub fn peek(&self, key: u32) -> Option<Frame>
+        ensures found { option_map (λ f. f.0) result ≡ frame_of key self.now.entries }
+        ensures used { IfSome result (λ f. IsUsed f.0 self.now.entries) }
+        ensures absent { IsNone result → IsNone (entry_of key self.now.entries) }
+    {
+        match frame_with(self.arena.words(), self.count, key) {
+            Some(frame) => Some(Frame(frame)),
+            None => None,
+        }
+    }
+
+    /// The key of the last entry, where all frames are in use.
+    pub fn last(&self) -> Option<u32>
+        ensures full { IsSome result ↔ (length self.now.entries ≡ self.now.count) }
+        ensures key { result ≡ slice_get (keys self.now.entries) (self.now.count - 1) }
+    {
+        if self.used == self.count {
+            let words = self.arena.words();
+            Some(key_of(words, self.count, last_frame(words, self.count)))
+        } else {
+            None
+        }
+    }
+
+    /// Takes a frame for a first entry with this key, no bytes and no mark. Where all frames are in
+    /// use, the last entry goes, and the new one has its frame.
+    pub fn take_last(&mut self, key: u32) -> Frame
+        requires absent { IsNone (entry_of key self.old.entries) }
+        ensures taken { self.new ≡ with_entries self.old (blank result.0 key ∷ take (self.old.count - 1) self.old.entries) }
+        ensures used { IsUsed result.0 self.new.entries }
+        ensures kept { IsKept self.new }
+    {
+        let count = self.count;
+        let used = self.used;
+        let words = self.arena.words_mut();
+        let frame = choose(words, count, used);
+        enter(words, count, frame, key);
+        self.used = count.min(used + 1);
+        Frame(frame)
+    }
+
+    /// The bytes of the entry in this frame.
+    pub fn bytes(&self, f: Frame) -> &[u8]
+        requires { IsUsed f.0 self.now.entries }
+        ensures { IfSome (entry_in f.0 self.now.entries) (λ e. result.now ≡ e.body) }
+    {
+        let len = len_of(self.arena.words(), self.count, f.0) as usize;
+        let at = f.0 as usize * self.frame_len as usize;
+        self.arena.bytes(at, len)
+    }
+
+    /// The same, to be written. They keep their number.
+    pub fn bytes_mut(&mut self, f: Frame) -> &mut [u8]
+        requires { IsUsed f.0 self.old.entries }
+        ensures* writes_back { sem 𝓛 (LendsBody self.entry f.0 result) }
+        ensures value { IfSome (entry_in f.0 self.old.entries) (λ e. result.now ≡ e.body) }
+    {
+        let len = len_of(self.arena.words(), self.count, f.0) as usize;
+        let at = f.0 as usize * self.frame_len as usize;
+        self.arena.bytes_mut(at, len)
+    }
+
+    /// Sets how many bytes the entry has. Those that it keeps stay, and new ones are zeros.
+    pub fn set_len(&mut self, f: Frame, len: u32)
+        requires used { IsUsed f.0 self.old.entries }
+        requires fits { len ≤ self.old.frame_len }
+        ensures resized { self.new ≡ with_entries self.old (with_len f.0 len self.old.entries) }
+        ensures used { IsUsed f.0 self.new.entries }
+        ensures kept { IsKept self.new }
+    {
+        let count = self.count;
+        let was = len_of(self.arena.words(), count, f.0);
+        let kept = was.min(len);
+        let at = f.0 as usize * self.frame_len as usize + kept as usize;
+        self.arena.bytes_mut(at, (len - kept) as usize).fill(0);
+        put_len(self.arena.words_mut(), count, f.0, len);
+    }
+
+    /// Sets the mark of the entry in this frame, or takes it away.
+    pub fn mark(&mut self, f: Frame, at: Option<u32>)
+        requires { IsUsed f.0 self.old.entries }
+        ensures marked { self.new ≡ with_entries self.old (with_mark f.0 at self.old.entries) }
+        ensures used { IsUsed f.0 self.new.entries }
+        ensures kept { IsKept self.new }
+    {
+        let count = self.count;
+        put_mark(self.arena.words_mut(), count, f.0, at);
+    }
+
+    pub fn marked(&self, f: Frame) -> Option<u32>
+        requires { IsUsed f.0 self.now.entries }
+        ensures { IfSome (entry_in f.0 self.now.entries) (λ e. result ≡ e.mark) }
+    {
+        mark_at(self.arena.words(), self.count, f.0)
+    }
+
+    /// The key of the entry that has `place` entries before it.
+    pub fn key_at(&self, place: u32) -> Option<u32>
+        ensures { result ≡ slice_get (keys self.now.entries) place }
+    {
+        if place < self.used {
+            let words = self.arena.words();
+            let frame = frame_at(words, self.count, place);
+            Some(key_of(words, self.count, frame))
+        } else {
+            None
+        }
+    }
+
+    /// How many entries there are.
+    pub fn len(&self) -> u32
+        ensures len { result ≡ length self.now.entries }
+        ensures kept { IsKept self.now }
+    {
+        self.used
+    }
+
+    /// No entry is left, and no frame is in use.
+    pub fn forget_all(&mut self)
+        ensures forgotten { self.new ≡ with_entries self.old [] }
+        ensures kept { IsKept self.new }
+    {
+        let count = self.count;
+        clear(self.arena.words_mut(), count);
+        self.used = 0;
+    }
+}
