@@ -13,6 +13,7 @@ const NO_MEMORY: u8 = 8;
 fn main(rt: HostRuntime) -> ExitCode {
     let alloc = rt.alloc();
     let Ok(words) = words::words_of(&rt, alloc) else {
+        let _ = println!(rt; "no memory");
         return ExitCode::from(NO_MEMORY);
     };
     let (_stage, status) = run_plain(HostStage::new(rt, alloc), alloc, &words);
