@@ -2,6 +2,8 @@ pub mod Counts
 pub mod Faults
 pub mod Files
 pub mod Held
+pub mod Images
 pub mod Inside
 pub mod Memory
+pub mod Outcomes
 pub mod World

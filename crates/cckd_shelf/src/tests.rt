@@ -1,4 +1,4 @@
-use crate::{Bytes, Failed, FileIn, HostStage, MemoryStage, Op, Shelf, Slot, Stage};
+use crate::{Bytes, Failed, FileIn, HostStage, MemoryStage, Op, Shelf, Slot, Stage, image_of};
 use std::alloc::Global;
 use std::test::Fail;
 use std::{env, fs};
@@ -180,5 +180,95 @@ fn real_files_are_written_and_read_back(rt: HostRuntime) -> Result<(), Fail> {
     assert_eq!(rt; all.as_slice(), b"\0\0\0def".as_slice());
     assert_eq!(rt; stage.read(base, 4, &mut all), Err(Failed));
     fs::remove_file(&rt, name.as_str())?;
+    Ok(())
+}
+
+/// One write inside a sector, one of another slot, one across two sectors, one past the end, and a cut.
+fn five_ops(alloc: Global) -> Result<Vec<Op>, Fail> {
+    let mut ops = Vec::new(alloc);
+    ops.push(Op::Write {
+        slot: 0,
+        pos: 600,
+        bytes: Bytes::of(alloc, b"bb")?,
+    })?;
+    ops.push(Op::Write {
+        slot: 1,
+        pos: 0,
+        bytes: Bytes::of(alloc, b"zz")?,
+    })?;
+    ops.push(Op::Write {
+        slot: 0,
+        pos: 511,
+        bytes: Bytes::of(alloc, b"cc")?,
+    })?;
+    ops.push(Op::Write {
+        slot: 0,
+        pos: 1026,
+        bytes: Bytes::of(alloc, b"d")?,
+    })?;
+    ops.push(Op::Cut { slot: 0, len: 700 })?;
+    Ok(ops)
+}
+
+/// A write that is synced, and a torn one.
+fn torn_ops(alloc: Global) -> Result<Vec<Op>, Fail> {
+    let mut ops = Vec::new(alloc);
+    ops.push(Op::Write {
+        slot: 0,
+        pos: 0,
+        bytes: Bytes::of(alloc, b"bb")?,
+    })?;
+    ops.push(Op::Sync { slot: 0 })?;
+    ops.push(Op::Torn {
+        slot: 0,
+        pos: 1,
+        bytes: Bytes::of(alloc, b"cc")?,
+    })?;
+    Ok(ops)
+}
+
+/// The bytes from `at` on in the outcome of a file of 1,024 bytes `a`, as many as are expected.
+fn is_left(
+    alloc: Global,
+    ops: &[Op],
+    choices: &[u8],
+    at: usize,
+    expected: &[u8],
+) -> Result<bool, Fail> {
+    let image = image_of(alloc, &[b'a'; 1024], ops, slot(0)?, choices)?;
+    let part = image.get(at..at.wrapping_add(expected.len()));
+    Ok(part == Some(expected))
+}
+
+#[test]
+fn an_outcome_is_made_by_choices(rt: HostRuntime) -> Result<(), Fail> {
+    let ops = five_ops(rt.alloc())?;
+    let rows: [(&[u8], usize, &[u8]); 7] = [
+        (&[0, 0, 0, 0], 510, b"aaaa"),
+        (&[], 600, b"aa"),
+        (&[1, 1, 1, 1], 600, b"bb"),
+        (&[1, 7, 1, 1], 510, b"a\x07\x07a"),
+        (&[0, 7, 0, 1], 598, b"aaaa"),
+        (&[1, 0, 1], 1023, b"a\0\0d"),
+        (&[0, 0, 0, 1], 699, b"a"),
+    ];
+    for (choices, at, expected) in rows {
+        assert!(rt;
+            is_left(rt.alloc(), &ops, choices, at, expected)?,
+            "{choices:?}"
+        );
+    }
+    assert!(rt;
+        !is_left(rt.alloc(), &ops, &[0, 0, 0, 1], 700, b"a")?,
+        "the cut was made"
+    );
+    Ok(())
+}
+
+#[test]
+fn a_sync_stays_and_a_torn_write_may_be_made(rt: HostRuntime) -> Result<(), Fail> {
+    let ops = torn_ops(rt.alloc())?;
+    assert!(rt; is_left(rt.alloc(), &ops, &[], 0, b"bbaa")?);
+    assert!(rt; is_left(rt.alloc(), &ops, &[1], 0, b"bcca")?);
     Ok(())
 }

@@ -1,0 +1,134 @@
+//! One outcome of a stop, for tests.
+ghost use Rattle.std.specs.Prelude.{◌≡◌, IfOk, OnOk};
+ghost use Rattle.cckd_shelf.specs.Files.{overlaid};
+ghost use Rattle.cckd_shelf.specs.Outcomes.{WriteLeaves, IsOutcome, events_from};
+ghost use Rattle.cckd_shelf.specs.Images.{HeldAfter, LeftAfter};
+
+use crate::{Bytes, Memory, Op, Slot};
+use std::alloc::{AllocError, Global};
+
+/// One outcome of a stop for a slot whose file was `start`, after these operations. The bytes of `choices`
+/// decide in turn on the slot's writes and cuts since its last sync: 0 leaves one out, and another byte
+/// makes it. A write that isn't inside one sector isn't made as it is: the byte fills its range and its gap.
+/// Past the end of `choices` nothing is made.
+pub fn image_of(
+    alloc: Global,
+    start: &[u8],
+    ops: &[Op],
+    slot: Slot,
+    choices: &[u8],
+) -> Result<Vec<u8>, Memory>
+    ensures { IfOk result (λ image. IsOutcome (events_from slot start.now ops.now) slot image.items) }
+{
+    let at = slot.get();
+    let mut held = Bytes::of(alloc, start)?;
+    let mut left = Bytes::of(alloc, start)?;
+    let mut rest = choices;
+    for op in ops {
+        let choice = first_of(rest);
+        rest = rest_after(op, at, rest, choices);
+        make(alloc, op, at, choice, &mut held, &mut left)?;
+    }
+    Ok(left.into_vec())
+}
+
+fn first_of(choices: &[u8]) -> u8 {
+    match choices {
+        [choice, ..] => *choice,
+        [] => 0,
+    }
+}
+
+/// The choices for the operations after this one.
+fn rest_after<'a>(op: &Op, at: u8, rest: &'a [u8], all: &'a [u8]) -> &'a [u8] {
+    match op {
+        Op::Sync { slot } if *slot == at => all,
+        Op::Write { slot, .. } if *slot == at => without_first(rest),
+        Op::Torn { slot, .. } if *slot == at => without_first(rest),
+        Op::Cut { slot, .. } if *slot == at => without_first(rest),
+        _ => rest,
+    }
+}
+
+fn without_first(choices: &[u8]) -> &[u8] {
+    match choices {
+        [_, rest @ ..] => rest,
+        [] => choices,
+    }
+}
+
+/// Makes the operation on what the slot holds, and on what a stop leaves of it as the choice says.
+fn make(
+    alloc: Global,
+    op: &Op,
+    at: u8,
+    choice: u8,
+    held: &mut Bytes,
+    left: &mut Bytes,
+) -> Result<(), Memory>
+    ensures held { OnOk result (HeldAfter op.now at held.old held.new) }
+    ensures left { OnOk result (LeftAfter op.now at held.old left.old left.new) }
+{
+    match op {
+        Op::Write { slot, pos, bytes } if *slot == at => {
+            write_whole(held, *pos, bytes.get())?;
+            leave_write(alloc, left, *pos, bytes.get(), choice)
+        }
+        Op::Torn { slot, pos, bytes } if *slot == at => {
+            leave_write(alloc, held, *pos, bytes.get(), choice)?;
+            leave_write(alloc, left, *pos, bytes.get(), choice)
+        }
+        Op::Cut { slot, len } if *slot == at => {
+            held.cut(*len as usize);
+            if choice != 0 {
+                left.cut(*len as usize);
+            }
+            Ok(())
+        }
+        Op::Sync { slot } if *slot == at => {
+            *left = Bytes::of(alloc, held.get())?;
+            Ok(())
+        }
+        _ => Ok(()),
+    }
+}
+
+fn write_whole(file: &mut Bytes, pos: u64, bytes: &[u8]) -> Result<(), Memory>
+    ensures { OnOk result (file.new ≡ overlaid file.old pos bytes.now) }
+{
+    if pos >= MOST || bytes.len() as u64 >= MOST - pos {
+        return Err(AllocError);
+    }
+    file.overlay(pos as usize, bytes)
+}
+
+const MOST: u64 = 1 << 63;
+
+const SECTOR: u64 = 512;
+
+/// What a write that isn't synced may leave.
+fn leave_write(
+    alloc: Global,
+    file: &mut Bytes,
+    pos: u64,
+    bytes: &[u8],
+    choice: u8,
+) -> Result<(), Memory>
+    ensures { OnOk result (WriteLeaves pos bytes.now file.old file.new) }
+{
+    if choice == 0 {
+        return Ok(());
+    }
+    if pos >= MOST || bytes.len() as u64 >= MOST - pos {
+        return Err(AllocError);
+    }
+    if pos % SECTOR + bytes.len() as u64 <= SECTOR {
+        file.overlay(pos as usize, bytes)?;
+        return Ok(());
+    }
+    let from = file.get().len().min(pos as usize);
+    let mut fill = Vec::new(alloc);
+    fill.resize(pos as usize + bytes.len() - from, choice)?;
+    file.overlay(from, &fill)?;
+    Ok(())
+}
