@@ -2,11 +2,11 @@
 use Rattle.std.proofs.Common.{◌≡◌, ℕ, Bool, true, false, cond, List, [], ◌∷◌, ◌++◌, Option, Some, None, refl, sym, ◌∙◌, ap}
 use Rattle.std.specs.Option.{option_or}
 use Rattle.cckd_base.specs.declared.fault.HeaderFault.{HeaderFault}
-use Rattle.cckd_base.specs.Header.{first_case, header_fault}
+use Rattle.cckd_base.specs.Header.{first_case, header_fault, layout_of}
 use Rattle.cckd_image.specs.declared.header.DevHeader.{DevHeader}
 use Rattle.cckd_image.specs.declared.header.CckdHeader.{CckdHeader}
 use Rattle.cckd_image.specs.declared.header.ImageHeader.{ImageHeader}
-use Rattle.cckd_image.specs.Image.{dev_header_of, cckd_header_of, header_of, decoded}
+use Rattle.cckd_image.specs.Image.{dev_header_of, cckd_header_of, header_of, layout_by, decoded}
 use Rattle.cckd_image.specs.Inside.{other_file_cases, geometry_cases, count_cases, format_cases, other_file_fault, geometry_fault, count_fault, format_fault, fault_of}
 
 one_more : (b : Bool) (fault : HeaderFault) (x y z : Option HeaderFault) → x ≡ option_or y z
@@ -64,3 +64,7 @@ pub both_headers : (headers : List ℕ) (d : DevHeader) (c : CckdHeader) → d �
     → ◌≡◌ {A = ImageHeader} record { dev = d; cckd = c } (header_of headers)
 both_headers headers d c e f =
     ap (λ (x : DevHeader). the_headers x c) e ∙ ap (λ (x : CckdHeader). the_headers (dev_header_of headers) x) f
+
+-- the layout that the fields say is the one that the bytes say
+pub layout_of_bytes : (headers : List ℕ) (h : ImageHeader) → h ≡ header_of headers → layout_by h ≡ layout_of headers
+layout_of_bytes headers h e = ap layout_by e

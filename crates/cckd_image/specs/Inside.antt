@@ -2,7 +2,6 @@
 use Rattle.std.specs.Prelude.{ℕ, ◌==◌, nat_lt, Bool, ◌||◌, not, List, [], ◌∷◌, ◌++◌, Option}
 use Rattle.std.specs.List.{list_any}
 use Rattle.std.specs.Str.{bytes_eq}
-use Rattle.cckd_base.specs.declared.geometry.Geometry.{Geometry}
 use Rattle.cckd_base.specs.declared.fault.HeaderFault.{HeaderFault}
 use Rattle.cckd_base.specs.declared.fault.HeaderFault.TheVariants.{NotCckd, BadGeometry, BadCounts, BadNullFormat}
 use Rattle.cckd_base.specs.declared.fault.GeoField.TheVariants.{Heads, Cylinders, Tracks, TrackSize, Sequence}
@@ -10,10 +9,7 @@ use Rattle.cckd_base.specs.declared.fault.CountField.TheVariants.{LevelOne, Leve
 use Rattle.cckd_base.specs.Geometry.{track_count, group_count, area_of, is_null_format}
 use Rattle.cckd_base.specs.Header.{is_outside, first_case}
 use Rattle.cckd_image.specs.declared.header.ImageHeader.{ImageHeader}
-
--- the geometry that the fields say
-abbrev pub geometry : ImageHeader → Geometry
-geometry h = record { devtype = h.dev.devtype; heads = h.dev.heads; cyls = h.cckd.cyls; track_size = h.dev.track_size }
+use Rattle.cckd_image.specs.Image.{geometry}
 
 abbrev pub other_file_cases : ImageHeader → List (List ℕ) → ℕ → List (Bool × HeaderFault)
 other_file_cases h identifiers len =

@@ -1,10 +1,10 @@
 //! The first fault of the headers of a file.
 
-ghost use Rattle.std.specs.Prelude.{◌≡◌, ◌<◌, ◌^◌};
-ghost use Rattle.cckd_base.specs.Geometry.{group_count};
+ghost use Rattle.std.specs.Prelude.{◌≡◌, ◌<◌, ◌≤◌, ◌^◌, false, None};
+ghost use Rattle.cckd_base.specs.Geometry.{group_count, IsGeometry, IsNullFormat};
 ghost use Rattle.cckd_base.specs.Header.{is_outside};
-ghost use Rattle.cckd_image.specs.Inside.{geometry, other_file_fault, geometry_fault, count_fault, format_fault, fault_of};
-ghost use Rattle.cckd_image.specs.Image.{identifiers_of};
+ghost use Rattle.cckd_image.specs.Inside.{other_file_fault, geometry_fault, count_fault, format_fault, fault_of};
+ghost use Rattle.cckd_image.specs.Image.{geometry, identifiers_of, IsHeader, IsLength};
 
 use crate::header::ImageHeader;
 use crate::roles::Roles;
@@ -12,7 +12,8 @@ use cckd_base::{CountField, FORMAT_LIMIT, GeoField, HeaderFault};
 
 /// Whether a number lies outside of a range.
 fn is_outside(low: u64, high: u64, n: u64) -> bool
-    ensures { result ≡ is_outside low high n }
+    ensures value { result ≡ is_outside low high n }
+    ensures within { result ≡ false → (low ≤ n) × (n ≤ high) }
 {
     n < low || high < n
 }
@@ -38,7 +39,8 @@ impl ImageHeader {
 
     /// The first fault of the fields that say the geometry.
     fn geometry_fault(&self) -> Option<HeaderFault>
-        ensures { result ≡ geometry_fault self.now }
+        ensures value { result ≡ geometry_fault self.now }
+        ensures sound { result ≡ None → IsGeometry (geometry self.now) }
     {
         let heads = u64::from(self.dev.heads);
         if is_outside(1, 65536, heads) {
@@ -89,7 +91,8 @@ impl ImageHeader {
 
     /// The first fault of the counts, in a file of `len` bytes.
     fn count_fault(&self, len: u64) -> Option<HeaderFault>
-        ensures { result ≡ count_fault self.now len }
+        ensures value { result ≡ count_fault self.now len }
+        ensures sound { result ≡ None → IsLength (group_count (geometry self.now)) len }
     {
         let groups = self.groups();
         let words = u64::from(self.cckd.words);
@@ -117,7 +120,8 @@ impl ImageHeader {
 
     /// The fault of the format of null tracks.
     fn format_fault(&self) -> Option<HeaderFault>
-        ensures { result ≡ format_fault self.now }
+        ensures value { result ≡ format_fault self.now }
+        ensures sound { result ≡ None → IsNullFormat (geometry self.now) self.now.cckd.null_fmt }
     {
         let null_fmt = self.cckd.null_fmt;
         if null_fmt < 2 {
@@ -129,7 +133,8 @@ impl ImageHeader {
 
     /// The first fault of these headers in a file of `len` bytes.
     pub(crate) fn fault(&self, len: u64, roles: Roles) -> Option<HeaderFault>
-        ensures { result ≡ fault_of self.now (identifiers_of roles) len }
+        ensures value { result ≡ fault_of self.now (identifiers_of roles) len }
+        ensures sound { result ≡ None → IsHeader self.now len }
     {
         let identity = self.other_file_fault(len, roles);
         let geometry = self.geometry_fault();

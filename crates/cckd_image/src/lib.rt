@@ -3,6 +3,7 @@
 
 mod fault;
 mod header;
+mod layout;
 mod read;
 mod roles;
 #[cfg(test)]

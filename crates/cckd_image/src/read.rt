@@ -1,10 +1,10 @@
 //! The headers that bytes spell.
 
-ghost use Rattle.std.specs.Prelude.{◌≡◌, ◌+◌, ◌≤◌, length};
+ghost use Rattle.std.specs.Prelude.{◌≡◌, ◌+◌, ◌≤◌, IfOk, length};
 ghost use Rattle.std.specs.Int.{w16, w32, cast_signed};
 ghost use Rattle.cckd_base.specs.Numbers.{bytes_at, number_at};
-ghost use Rattle.cckd_base.specs.Header.{header_fault};
-ghost use Rattle.cckd_image.specs.Image.{identifiers_of, dev_header_of, cckd_header_of, decoded, header_of};
+ghost use Rattle.cckd_base.specs.Header.{header_fault, layout_of};
+ghost use Rattle.cckd_image.specs.Image.{identifiers_of, dev_header_of, cckd_header_of, decoded, header_of, layout_by, IsHeader};
 
 use crate::header::{CckdHeader, DevHeader, ImageHeader, order_in};
 use crate::roles::Roles;
@@ -91,7 +91,9 @@ fn header_in(headers: &[u8; 1024]) -> ImageHeader
 /// The headers that these bytes of a file of `len` bytes spell, or the first fault that the file has in a
 /// file of these roles. The bytes past the end of a short file are zeros.
 pub fn decode(bytes: &[u8; 1024], len: u64, roles: Roles) -> Result<ImageHeader, HeaderFault>
-    ensures { result ≡ decoded (header_fault (identifiers_of roles) bytes.now len) (header_of bytes.now) }
+    ensures answer { result ≡ decoded (header_fault (identifiers_of roles) bytes.now len) (header_of bytes.now) }
+    ensures sound { IfOk result (λ h. IsHeader h len) }
+    ensures layout { IfOk result (λ h. layout_by h ≡ layout_of bytes.now) }
 {
     let header = header_in(bytes);
     match header.fault(len, roles) {
