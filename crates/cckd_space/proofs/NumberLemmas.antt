@@ -1,0 +1,104 @@
+-- The numbers of a list of pieces that cover a file.
+use Rattle.std.proofs.Common.{◌≡◌, ℕ, zero, suc, ◌+◌, ◌-◌, ◌*◌, ◌<◌, ◌≤◌, nat_le, Bool, true, false, cond, ◌&&◌, List, [], ◌∷◌, length, get_or, Some, None, refl, ap, arith, position}
+use Rattle.std.proofs.lemmas.Bool.{cond_both, leb-true, leb-false, and_parts}
+use Rattle.cckd_base.specs.declared.space.Owner.TheVariants.{Nobody}
+use Rattle.cckd_space.specs.declared.piece.Kind.TheVariants.{Used, Free, Reserved, Leaving, Pending}
+use Rattle.cckd_space.specs.declared.piece.Piece.{Piece}
+use Rattle.cckd_space.specs.Pieces.{is_free, is_roomy, is_roomy_from, used_kind, free_kind, first, has_room, aligned_up, piece_end, offer, greatest, largest, summed, counted, used_len, roomy_len, IsFormedAs, IsLaid}
+use Rattle.cckd_space.specs.Plan.{free_from}
+use Rattle.cckd_space.proofs.LaidLemmas.{room_facts, laid_le}
+use Rattle.cckd_space.proofs.FirstLemmas.{is_first, first_at, none_passes}
+
+pub greatest_ge : (f : Piece → ℕ) (xs : List Piece) (i : ℕ) (d : Piece) → i < length xs → f (get_or xs i d) ≤ greatest f xs
+greatest_ge f [] i d h = absurd (omega arith)
+greatest_ge f (x ∷ xs) zero d h = omega arith
+greatest_ge f (x ∷ xs) (suc i) d h = let r = greatest_ge f xs i d (omega arith) in omega (arith, r)
+
+pub offers : (need : ℕ) (p : Piece) → has_room need p ≡ true → need ≤ offer p
+offers need p e = let r = room_facts need p e in rw r.free (omega (arith, r.fits))
+
+no_offer : (need : ℕ) (p : Piece) → 0 < need → has_room need p ≡ false → offer p < need
+no_offer need p some e = by (is_free p) refl
+  where
+    by : (b : Bool) → is_free p ≡ b → offer p < need
+    by true f =
+        let l : nat_le (aligned_up p.pos + need) (piece_end p) ≡ false = rw f at e in
+        let m = leb-false (aligned_up p.pos + need) (piece_end p) l in
+        rw f (omega (arith, m))
+    by false f = rw f some
+
+none_offered : (need : ℕ) → 0 < need → (xs : List Piece) → first (has_room need) xs ≡ None → largest xs < need
+none_offered need some [] e = some
+none_offered need some (x ∷ xs) e = by (has_room need x) refl (none_offered need some xs)
+  where
+    by : (b : Bool) → has_room need x ≡ b → (first (has_room need) xs ≡ None → largest xs < need) → largest (x ∷ xs) < need
+    by true f more = absurd (let g = rw f at e in cc)
+    by false f more =
+        let r = more (rw f at e) in
+        let o = no_offer need x some f in
+        omega (arith, r, o)
+
+pub none_large : (need : ℕ) → 0 < need → (xs : List Piece) → position (has_room need) xs ≡ None → largest xs < need
+none_large need some xs e = none_offered need some xs (none_passes (has_room need) xs e)
+
+pub some_large : (need : ℕ) (xs : List Piece) (i : ℕ) → position (has_room need) xs ≡ Some i → need ≤ largest xs
+some_large need xs i e =
+    let d : Piece = record { pos = 0; len = 0; size = 0; kind = Used; owner = Nobody } in
+    let f = is_first (has_room need) xs i d e in
+    let o = offers need (get_or xs i d) f.here in
+    let g = greatest_ge offer xs i d f.within in
+    omega (arith, o, g)
+
+offer_le : (p : Piece) (end : ℕ) → piece_end p ≤ end → offer p ≤ end
+offer_le p end h = cond_both (is_free p) (piece_end p - aligned_up p.pos) 0 (λ (n : ℕ). n ≤ end) (λ e. omega arith) (λ e. omega arith)
+
+parts_fit : (p : Piece) → IsFormedAs p.kind p → used_len p + roomy_len p ≤ p.size
+parts_fit p h =
+    let by : IsFormedAs p.kind p → cond (used_kind p.kind) p.len 0 + cond (free_kind p.kind && nat_le 8 p.size) p.size 0 ≤ p.size =
+    elim p.kind as (λ k. IsFormedAs k p → cond (used_kind k) p.len 0 + cond (free_kind k && nat_le 8 p.size) p.size 0 ≤ p.size) [
+      | Used ↦ λ f. omega (arith, f.1)
+      | Free ↦ λ f. cond_both (nat_le 8 p.size) p.size 0 (λ (n : ℕ). 0 + n ≤ p.size) (λ e. omega arith) (λ e. omega arith)
+      | Reserved ↦ λ f. omega arith
+      | Leaving ↦ λ f. omega arith
+      | Pending ↦ λ f. omega arith
+    ] in
+    by h
+
+pub sums_fit : (at : ℕ) (ps : List Piece) (end : ℕ) → IsLaid at ps end → at + (summed used_len ps + summed roomy_len ps) ≤ end
+sums_fit at [] end h = omega (arith, h)
+sums_fit at (p ∷ ps) end h =
+    let r = sums_fit (at + p.size) ps end h.2 in
+    let s = parts_fit p h.0.formed in
+    omega (arith, r, s)
+
+count_fits_one : (p : Piece) → 8 * cond (is_roomy p) 1 0 ≤ roomy_len p
+count_fits_one p = by (is_roomy p) refl
+  where
+    by : (b : Bool) → is_roomy p ≡ b → 8 * cond (is_roomy p) 1 0 ≤ roomy_len p
+    by true e = let l = leb-true 8 p.size (and_parts (is_free p) (nat_le 8 p.size) e).1 in rw e (omega (arith, l))
+    by false e = rw e (omega arith)
+
+pub count_fits : (ps : List Piece) → 8 * counted is_roomy ps ≤ summed roomy_len ps
+count_fits [] = omega arith
+count_fits (p ∷ ps) =
+    let r = count_fits ps in
+    let s = count_fits_one p in
+    omega (arith, r, s)
+
+pub largest_fits : (at : ℕ) (ps : List Piece) (end : ℕ) → IsLaid at ps end → largest ps ≤ end
+largest_fits at [] end h = omega arith
+largest_fits at (p ∷ ps) end h =
+    let r = largest_fits (at + p.size) ps end h.2 in
+    let s = laid_le (at + p.size) ps end h.2 in
+    let o = offer_le p end (omega (arith, s, h.0.place)) in
+    omega (arith, r, o)
+
+pub found_free : (from : ℕ) (xs ys : List Piece) (i : ℕ) (x : Piece) → position (is_roomy_from from) ys ≡ Some i → ys ≡ xs → x ≡ get_or xs i x → Some (x.pos, x.size) ≡ free_from from xs
+found_free from xs ys i x e s r =
+    let f = first_at (is_roomy_from from) xs i x (is_first (is_roomy_from from) xs i x (rw (← s) e)) in
+    rw f (ap (λ (p : Piece). Some (p.pos, p.size)) r)
+
+pub no_free : (from : ℕ) (xs ys : List Piece) → position (is_roomy_from from) ys ≡ None → ys ≡ xs → None ≡ free_from from xs
+no_free from xs ys e s =
+    let f = none_passes (is_roomy_from from) xs (rw (← s) e) in
+    rw f refl

@@ -1,0 +1,6 @@
+use Rattle.std.proofs.Common.{◌≡◌, ◌++◌, take, drop, map}
+use Rattle.cckd_space.specs.Pieces.{retired}
+use Rattle.cckd_space.proofs.editing.retire_each.Given as goal
+
+abbrev pub invariant-loop-piece : goal.invariant-loop-piece
+invariant-loop-piece l = l.pieces ≡ map retired (take l.piece-index l.initial.pieces) ++ drop l.piece-index l.initial.pieces

@@ -1,0 +1,247 @@
+//! The space of a file.
+ghost use Rattle.std.specs.Prelude.{◌≡◌, ◌+◌, ◌-◌, ◌*◌, ◌%◌, ◌<◌, ◌≤◌, ◌↔◌, ◌^◌, [], ◌∷◌, length, map, min, max, IfOk, OnOk, OnErr, IfErr, IsErr, IsSome, IfSome, OnSome, None, Some, position};
+ghost use Rattle.std.specs.Vec.{vec_len, vec_capacity};
+
+use crate::editing::{
+    cut_end, free_end, free_piece_at, leave_piece, merge, release_pieces, reserve_below,
+    reserve_end, reserve_found, retire_pieces, settle_piece,
+};
+use crate::finding::{room_index, roomy_index_from};
+use crate::making::list_pieces;
+use crate::piece::{Piece, Totals, align};
+use crate::totals::{
+    largest_offer, roomy_bytes, roomy_count, roomy_first, roomy_largest, used_bytes,
+};
+use cckd_base::{Extent, Full, Memory, Owner};
+use std::alloc::Global;
+use std::marker::Model;
+
+/// Which bytes of a file are in use and which are free: its pieces in order of position, its size,
+/// the size that it may grow to, and how many pieces may still be added without taking memory.
+#[derive(Drop)]
+pub struct Space {
+    pieces: Vec<Piece>,
+    size: u32,
+    limit: u32,
+    // How many pieces there may be.
+    slots: usize,
+}
+
+impl Model for Space {
+    ghost use Rattle.cckd_space.specs.Plan.{Plan};
+    ghost use Rattle.cckd_space.specs.Inside.{IsKept};
+    ghost use Rattle.std.specs.Vec.{vec_capacity};
+    ghost use Rattle.std.specs.Prelude.{◌-◌, length};
+
+    ghost Value = { Plan };
+
+    ghost view = { λ s. record { pieces = s.pieces.items; size = s.size; limit = s.limit; spare = s.slots - length s.pieces.items } };
+
+    ghost invariant = { λ s. IsKept s.pieces.items s.size s.slots (vec_capacity s.pieces) };
+}
+
+impl Space {
+    ghost use Rattle.cckd_space.specs.Pieces.{first, replaced, is_used_at, is_reserved_at, settled, left, retired, released, merged, freed, has_room, appended, end_place, has_room_below, reserved_in, cut, trimmed, used_end, largest, AreUsed};
+    ghost use Rattle.cckd_space.specs.Plan.{IsSound, IsNeed, IsPlanOf, KeepsAllButSpare, Becomes, first_fit, first_fit_below, place_of, with_reserved, size_with, room, numbers, totals_of, free_from};
+
+    /// The space of a file of `size` bytes, of which these are used, and which may grow to `limit`
+    /// bytes. So many pieces may be added without taking memory.
+    pub fn from_used(
+        alloc: Global,
+        used: &[Extent],
+        size: u32,
+        limit: u32,
+        spare: u32,
+    ) -> Result<Space, Memory>
+        requires used { AreUsed 0 used.now size }
+        ensures { IfOk result (IsPlanOf used.now size limit spare) }
+    {
+        let pieces = list_pieces(alloc, used, size, spare as usize)?;
+        let slots = pieces.len() + spare as usize;
+        Ok(Space {
+            pieces,
+            size,
+            limit,
+            slots,
+        })
+    }
+
+    /// Makes room for at least so many pieces more.
+    pub fn grow(&mut self, more: u32) -> Result<(), Memory>
+        ensures kept { KeepsAllButSpare self.old self.new }
+        ensures enough { OnOk result (more ≤ self.new.spare) }
+    {
+        let wanted = self.pieces.len() + more as usize;
+        if self.slots < wanted {
+            self.pieces.reserve(more as usize)?;
+            self.slots = wanted;
+        }
+        Ok(())
+    }
+
+    /// Reserves `need` bytes at the first fit, or else at the end of the file.
+    pub fn place(&mut self, need: u32) -> Result<u32, Full>
+        requires need { IsNeed need }
+        requires spare { 2 ≤ self.old.spare }
+        ensures placed { IfOk result (λ pos. pos ≡ place_of need self.old.pieces) }
+        ensures reserved { OnOk result (Becomes self.old self.new (with_reserved need self.old.pieces) (size_with need self.old)) }
+
+        // It is full exactly where neither a free piece nor the end of the file has room.
+        ensures full { IsErr result ↔ ((largest self.old.pieces < need) × (room self.old < need)) }
+        ensures numbers { IfErr result (λ full. full ≡ numbers need self.old) }
+        ensures same { OnErr result (self.new ≡ self.old) }
+    {
+        match room_index(self.pieces.as_slice(), need) {
+            Some(at) => Ok(self.place_found(at, need)),
+            None => self.place_at_end(need),
+        }
+    }
+
+    fn place_found(&mut self, at: usize, need: u32) -> u32
+        requires found { position (has_room need) self.old.pieces ≡ Some at }
+        requires need { 0 < need }
+        requires spare { 2 ≤ self.old.spare }
+        ensures placed { Some result ≡ first_fit need self.old.pieces }
+        ensures reserved { Becomes self.old self.new (replaced (has_room need) (reserved_in need) self.old.pieces) self.old.size }
+    {
+        reserve_found(&mut self.pieces, at, need)
+    }
+
+    /// Reserves bytes at the end of the file, where no free piece offers as many.
+    fn place_at_end(&mut self, need: u32) -> Result<u32, Full>
+        requires need { 0 < need }
+        requires none { largest self.old.pieces < need }
+        requires spare { 2 ≤ self.old.spare }
+        ensures placed { IfOk result (λ pos. pos ≡ end_place self.old.pieces) }
+        ensures reserved { OnOk result (Becomes self.old self.new (appended need self.old.pieces) (end_place self.old.pieces + need)) }
+        ensures full { IsErr result ↔ (room self.old < need) }
+        ensures numbers { IfErr result (λ full. full ≡ numbers need self.old) }
+        ensures same { OnErr result (self.new ≡ self.old) }
+    {
+        let end = free_end(self.pieces.as_slice(), self.size);
+        let place = align(end);
+        if place + need as u64 <= self.limit as u64 {
+            reserve_end(&mut self.pieces, end, self.size, need);
+            self.size = place as u32 + need;
+            return Ok(place as u32);
+        }
+        let largest = largest_offer(self.pieces.as_slice()) as u32;
+        let room = (self.limit as u64).saturating_sub(place) as u32;
+        Err(Full {
+            need,
+            largest,
+            room,
+        })
+    }
+
+    /// Reserves `need` bytes at the first fit that ends at or below `before`.
+    pub fn place_below(&mut self, need: u32, before: u32) -> Option<u32>
+        requires need { IsNeed need }
+        requires spare { 2 ≤ self.old.spare }
+        ensures placed { result ≡ first_fit_below need before self.old.pieces }
+        ensures reserved { Becomes self.old self.new (replaced (has_room_below need before) (reserved_in need) self.old.pieces) self.old.size }
+    {
+        reserve_below(&mut self.pieces, need, before)
+    }
+
+    /// The pieces, in order of position.
+    pub fn pieces(&self) -> &[Piece]
+        ensures listed { result.now ≡ self.now.pieces }
+        ensures sound { IsSound self.now }
+    {
+        self.pieces.as_slice()
+    }
+
+    /// Turns the Reserved piece at `pos` into a Used one of this owner, of which `len` bytes are in
+    /// use.
+    pub fn settle(&mut self, pos: u32, len: u32, owner: Owner)
+        requires reserved { IfSome (first (is_reserved_at pos) self.old.pieces) (λ p. (1 ≤ len) × (len ≤ p.size)) }
+        requires there { IsSome (first (is_reserved_at pos) self.old.pieces) }
+        ensures { Becomes self.old self.new (replaced (is_reserved_at pos) (λ p. settled len owner p ∷ []) self.old.pieces) self.old.size }
+    {
+        settle_piece(&mut self.pieces, pos, len, owner);
+    }
+
+    /// Turns the Used piece at `pos` into a Leaving one.
+    pub fn leave(&mut self, pos: u32)
+        requires there { IsSome (first (is_used_at pos) self.old.pieces) }
+        ensures { Becomes self.old self.new (replaced (is_used_at pos) (λ p. left p ∷ []) self.old.pieces) self.old.size }
+    {
+        leave_piece(&mut self.pieces, pos);
+    }
+
+    /// Turns every Leaving piece into a Pending one.
+    pub fn retire_all(&mut self)
+        ensures { Becomes self.old self.new (map retired self.old.pieces) self.old.size }
+    {
+        retire_pieces(&mut self.pieces);
+    }
+
+    /// Frees the Reserved piece at `pos`.
+    pub fn give_back(&mut self, pos: u32)
+        requires there { IsSome (first (is_reserved_at pos) self.old.pieces) }
+        ensures { Becomes self.old self.new (merged (replaced (is_reserved_at pos) (λ p. freed p ∷ []) self.old.pieces)) self.old.size }
+    {
+        free_piece_at(&mut self.pieces, pos);
+        merge(&mut self.pieces);
+    }
+
+    /// Frees every Pending piece.
+    pub fn release_all(&mut self)
+        ensures { Becomes self.old self.new (merged (map released self.old.pieces)) self.old.size }
+    {
+        release_pieces(&mut self.pieces);
+        merge(&mut self.pieces);
+    }
+
+    /// Drops a Free piece at the end, and answers the size of the file then.
+    pub fn trim(&mut self) -> u32
+        ensures size { result ≡ used_end self.old.pieces }
+        ensures dropped { Becomes self.old self.new (trimmed self.old.pieces) (used_end self.old.pieces) }
+    {
+        let end = free_end(self.pieces.as_slice(), self.size);
+        cut_end(&mut self.pieces, 0, self.size);
+        self.size = end;
+        end
+    }
+
+    /// Drops the free bytes at the end that stand at or past `len`.
+    pub fn cut_back(&mut self, len: u32)
+        ensures { Becomes self.old self.new (cut len self.old.size self.old.pieces) (max (used_end self.old.pieces) (min len self.old.size)) }
+    {
+        let end = free_end(self.pieces.as_slice(), self.size);
+        cut_end(&mut self.pieces, len, self.size);
+        self.size = end.max(len.min(self.size));
+    }
+
+    /// The totals of the file.
+    pub fn totals(&self) -> Totals
+        ensures { result ≡ totals_of self.now }
+    {
+        let size = self.size;
+        let pieces = self.pieces.as_slice();
+        let used = used_bytes(pieces);
+        let total = roomy_bytes(pieces);
+        Totals {
+            size,
+            used,
+            free: roomy_first(pieces),
+            free_total: total,
+            free_largest: roomy_largest(pieces),
+            free_number: roomy_count(pieces),
+            free_imbed: size - used - total,
+        }
+    }
+
+    /// The first free piece of at least 8 bytes that starts at or after `from`: where it starts, and
+    /// its size.
+    pub fn next_free(&self, from: u32) -> Option<(u32, u32)>
+        ensures { result ≡ free_from from self.now.pieces }
+    {
+        let Some(at) = roomy_index_from(self.pieces.as_slice(), from) else {
+            return None;
+        };
+        let piece = self.pieces[at];
+        Some((piece.pos, piece.size))
+    }
+}
