@@ -6,6 +6,8 @@ mod finding;
 mod making;
 mod piece;
 mod space;
+#[cfg(test)]
+mod tests;
 mod totals;
 
 pub use cckd_base::{Extent, Full, Memory, Owner};
