@@ -21,6 +21,13 @@ fn headers(big: bool) -> [u8; 1024] {
     headers
 }
 
+/// Puts a byte at its place.
+fn set(headers: &mut [u8; 1024], put: (usize, u8)) {
+    if put.0 < 1024 {
+        headers[put.0] = put.1;
+    }
+}
+
 #[test]
 fn both_orders_say_the_same(rt: HostRuntime) {
     for big in [false, true] {
@@ -52,7 +59,7 @@ fn headers_are_written_as_they_were_read(rt: HostRuntime) {
         for place in [18, 19, 20, 511, 512, 557, 558, 560, 1023] {
             bytes[place] = 0xa5;
         }
-        bytes[515] += 0x80;
+        bytes[515] |= 0x80;
         let Ok(header) = decode(&bytes, 1_056, Roles::Either) else {
             assert_eq!(rt; big, !big, "refused");
             return;
@@ -124,8 +131,8 @@ fn each_fault_is_the_first(rt: HostRuntime) {
     ];
     for (first, second, len, fault) in rows {
         let mut bytes = headers(false);
-        bytes[first.0] = first.1;
-        bytes[second.0] = second.1;
+        set(&mut bytes, first);
+        set(&mut bytes, second);
         assert_eq!(rt; decode(&bytes, len, Roles::Base), Err(fault));
     }
 }

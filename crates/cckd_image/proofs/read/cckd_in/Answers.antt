@@ -3,8 +3,7 @@ use Rattle.std.specs.Int.{Width, w16, w32, cast_signed, cast_unsigned}
 use Rattle.std.proofs.lemmas.Int.{of_z-to_z}
 use Rattle.cckd_base.specs.declared.order.Order.{Order}
 use Rattle.cckd_base.specs.Numbers.{number_at, bytes_of, bytes_at}
-use Rattle.cckd_image.specs.declared.header.CckdHeader.{CckdHeader}
-use Rattle.cckd_image.specs.Image.{order_by, cckd_header_of, cckd_bytes, count_bytes}
+use Rattle.cckd_image.specs.Image.{cckd_bytes, count_bytes}
 use Rattle.cckd_image.proofs.PartLemmas.{joined, joined_byte}
 use Rattle.cckd_image.proofs.read.cckd_in.Goals as goal
 
