@@ -1,6 +1,7 @@
 //! The two headers of an image: what they say, their first fault, and the bytes that spell them.
 #![tactic(auto)]
 
+mod encode;
 mod fault;
 mod header;
 mod layout;

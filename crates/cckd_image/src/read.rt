@@ -2,9 +2,9 @@
 
 ghost use Rattle.std.specs.Prelude.{◌≡◌, ◌+◌, ◌≤◌, IfOk, length};
 ghost use Rattle.std.specs.Int.{w16, w32, cast_signed};
-ghost use Rattle.cckd_base.specs.Numbers.{bytes_at, number_at};
+ghost use Rattle.cckd_base.specs.Numbers.{bytes_of, bytes_at, number_at};
 ghost use Rattle.cckd_base.specs.Header.{header_fault, layout_of};
-ghost use Rattle.cckd_image.specs.Image.{identifiers_of, dev_header_of, cckd_header_of, decoded, header_of, layout_by, IsHeader};
+ghost use Rattle.cckd_image.specs.Image.{identifiers_of, dev_header_of, cckd_header_of, decoded, header_of, layout_by, dev_bytes, cckd_bytes, header_bytes, IsHeader};
 
 use crate::header::{CckdHeader, DevHeader, ImageHeader, order_in};
 use crate::roles::Roles;
@@ -23,7 +23,8 @@ fn part<const N: usize>(headers: &[u8], at: usize) -> [u8; N]
 /// The number of four bytes at a place of the headers.
 fn number(order: Order, headers: &[u8], at: usize) -> u32
     requires { at + 4 ≤ length headers.now }
-    ensures { result ≡ number_at order w32 headers.now at }
+    ensures value { result ≡ number_at order w32 headers.now at }
+    ensures undone { bytes_of order w32 result ≡ bytes_at headers.now at 4 }
 {
     order.u32_of(part(headers, at))
 }
@@ -31,7 +32,8 @@ fn number(order: Order, headers: &[u8], at: usize) -> u32
 /// The number of two bytes at a place of the headers.
 fn small_number(order: Order, headers: &[u8], at: usize) -> u16
     requires { at + 2 ≤ length headers.now }
-    ensures { result ≡ number_at order w16 headers.now at }
+    ensures value { result ≡ number_at order w16 headers.now at }
+    ensures undone { bytes_of order w16 result ≡ bytes_at headers.now at 2 }
 {
     order.u16_of(part(headers, at))
 }
@@ -39,7 +41,8 @@ fn small_number(order: Order, headers: &[u8], at: usize) -> u16
 /// The device header that these headers begin with.
 fn dev_in(headers: &[u8]) -> DevHeader
     requires { length headers.now ≡ 1024 }
-    ensures { result ≡ dev_header_of headers.now }
+    ensures value { result ≡ dev_header_of headers.now }
+    ensures undone { dev_bytes result ≡ bytes_at headers.now 0 512 }
 {
     DevHeader {
         id: part(headers, 0),
@@ -55,7 +58,8 @@ fn dev_in(headers: &[u8]) -> DevHeader
 /// The header of a compressed device that these headers end with.
 fn cckd_in(headers: &[u8]) -> CckdHeader
     requires { length headers.now ≡ 1024 }
-    ensures { result ≡ cckd_header_of headers.now }
+    ensures value { result ≡ cckd_header_of headers.now }
+    ensures undone { cckd_bytes result ≡ bytes_at headers.now 512 512 }
 {
     let order = order_in(headers[515]);
     CckdHeader {
@@ -80,7 +84,8 @@ fn cckd_in(headers: &[u8]) -> CckdHeader
 
 /// Both headers.
 fn header_in(headers: &[u8; 1024]) -> ImageHeader
-    ensures { result ≡ header_of headers.now }
+    ensures value { result ≡ header_of headers.now }
+    ensures undone { header_bytes result ≡ headers.now }
 {
     ImageHeader {
         dev: dev_in(headers.as_slice()),
@@ -93,6 +98,7 @@ fn header_in(headers: &[u8; 1024]) -> ImageHeader
 pub fn decode(bytes: &[u8; 1024], len: u64, roles: Roles) -> Result<ImageHeader, HeaderFault>
     ensures answer { result ≡ decoded (header_fault (identifiers_of roles) bytes.now len) (header_of bytes.now) }
     ensures sound { IfOk result (λ h. IsHeader h len) }
+    ensures undone { IfOk result (λ h. header_bytes h ≡ bytes.now) }
     ensures layout { IfOk result (λ h. layout_by h ≡ layout_of bytes.now) }
 {
     let header = header_in(bytes);

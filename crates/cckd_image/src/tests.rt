@@ -1,5 +1,5 @@
 use super::*;
-use cckd_base::{CountField, GeoField, HeaderFault};
+use cckd_base::{CountField, GeoField, HeaderFault, Order};
 
 /// The headers of a closed base of a 2311 without a table, in the byte order of its own numbers.
 fn headers(big: bool) -> [u8; 1024] {
@@ -21,6 +21,13 @@ fn headers(big: bool) -> [u8; 1024] {
     headers
 }
 
+/// Puts a byte at its place.
+fn set(headers: &mut [u8; 1024], put: (usize, u8)) {
+    if put.0 < 1024 {
+        headers[put.0] = put.1;
+    }
+}
+
 #[test]
 fn both_orders_say_the_same(rt: HostRuntime) {
     for big in [false, true] {
@@ -40,6 +47,30 @@ fn both_orders_say_the_same(rt: HostRuntime) {
         assert_eq!(rt;
             (header.cckd.size, header.cckd.used, header.cckd.param),
             (1_056, 1_056, -1)
+        );
+    }
+}
+
+#[test]
+fn headers_are_written_as_they_were_read(rt: HostRuntime) {
+    for big in [false, true] {
+        let mut bytes = headers(big);
+        // Bytes that no reader interprets: the highest cylinder, reserved ones, version, options, compression.
+        for place in [18, 19, 20, 511, 512, 557, 558, 560, 1023] {
+            bytes[place] = 0xa5;
+        }
+        bytes[515] |= 0x80;
+        let Ok(header) = decode(&bytes, 1_056, Roles::Either) else {
+            assert_eq!(rt; big, !big, "refused");
+            return;
+        };
+        let same = header.encode() == bytes;
+        assert_eq!(rt; same, true, "{big}");
+        let order = if big { Order::Big } else { Order::Little };
+        let layout = header.layout();
+        assert_eq!(rt;
+            (layout.order, layout.groups, layout.shadow, layout.null_fmt),
+            (order, 8, false, 0)
         );
     }
 }
@@ -100,8 +131,8 @@ fn each_fault_is_the_first(rt: HostRuntime) {
     ];
     for (first, second, len, fault) in rows {
         let mut bytes = headers(false);
-        bytes[first.0] = first.1;
-        bytes[second.0] = second.1;
+        set(&mut bytes, first);
+        set(&mut bytes, second);
         assert_eq!(rt; decode(&bytes, len, Roles::Base), Err(fault));
     }
 }
