@@ -1,9 +1,13 @@
 -- What a caller sees after each call.
-use Rattle.std.proofs.Common.{◌≡◌, ◌≢◌, inl, inr, ℕ, ◌+◌, ◌-◌, ◌*◌, ◌<◌, ◌≤◌, List, ◌∷◌, length, take, Option, None, Some, IsNone, slice_get, min, refl, sym, ap, ◌∙◌, subst, arith}
-use Rattle.cckd_frames.specs.Frames.{Entry, Kept, IsKept, keys, entry_of, entry_in, IsUsed, promoted, blank, refilled, with_entries}
+use Rattle.std.proofs.Common.{◌≡◌, ◌≢◌, inl, inr, ℕ, ◌+◌, ◌-◌, ◌*◌, ◌<◌, ◌≤◌, List, ◌∷◌, take, None, Some, IsNone, slice_get, min, refl, sym, ap, ◌∙◌, subst, arith}
+use Rattle.std.specs.declared.alloc.Global.{Global}
+use denote.RawPtr.{Ptr}
+use Rattle.cckd_frames.specs.declared.block.Deed.{Deed}
+use Rattle.cckd_frames.specs.declared.node.Node.{Node}
+use Rattle.cckd_frames.specs.Whole.{IsWhole}
+use Rattle.cckd_frames.specs.Frames.{Entry, Kept, IsKept, keys, entry_of, entry_in, IsUsed, promoted, blank, with_entries}
 use Rattle.cckd_frames.specs.Nodes.{word, trail}
 use Rattle.cckd_frames.specs.Table.{IsSound, bucket_of, node_with, nth_after, brought, taken, chosen, cleared, entry_at, entries_of}
-use Rattle.cckd_frames.proofs.Bytes.{refilled-same}
 use Rattle.cckd_frames.proofs.Entries.{key-get, key-get-past, last_get}
 use Rattle.cckd_frames.proofs.Trails.{trail-get, length-trail}
 use Rattle.cckd_frames.proofs.States.{entries_are, in_use, entry_found, looked_up, entries_brought, entries_taken}
@@ -13,16 +17,9 @@ use Rattle.cckd_frames.proofs.Writes.{no_such_key, sound_kept}
 abbrev pub seen : ℕ → ℕ → ℕ → List ℕ → List ℕ → Kept
 seen count frame_len used ws bs = record { count = count; frame_len = frame_len; entries = entries_of count frame_len used ws bs }
 
--- the words that were lent, after they were written
-pub lent_back : (ws now new vs : List ℕ) → now ≡ ws → length new ≡ length now → new ≡ vs → refilled ws new ≡ vs
-lent_back ws now new vs e l n = refilled-same ws new (l ∙ ap (λ (xs : List ℕ). length xs) e) ∙ n
-
--- the frame that the buckets give for a key
-abbrev pub lookup : ℕ → ℕ → List ℕ → Option ℕ
-lookup count key ws = node_with ws key (trail ws 2 (bucket_of count key) (word ws 5 (bucket_of count key)))
-
-pub read_from : (ws now : List ℕ) (count key : ℕ) (r o : Option ℕ) → now ≡ ws → r ≡ lookup count key now → r ≡ o → lookup count key ws ≡ o
-read_from ws now count key r o e l k = ap (λ (xs : List ℕ). lookup count key xs) (sym e) ∙ (sym l ∙ k)
+-- the block stays the same
+pub moved : {f g at : Ptr} {room : ℕ} {d : Deed Node Global} {alloc : Global} (count frame_len : ℕ) → g ≡ f → IsWhole count frame_len f at room d alloc → IsWhole count frame_len g at room d alloc
+moved {at = at} {room = room} {d = d} {alloc = alloc} count frame_len e = subst (λ p. IsWhole count frame_len p at room d alloc) (sym e)
 
 module _ (count frame_len used : ℕ) (ws bs : List ℕ) (s : IsSound count frame_len used ws bs) where
   -- a node that a look-up gives

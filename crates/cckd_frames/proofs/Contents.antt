@@ -2,7 +2,7 @@
 use Rattle.std.proofs.Common.{◌≡◌, ◌≢◌, ℕ, ◌+◌, ◌-◌, ◌*◌, ◌<◌, List, length, take, drop, ◌∙◌, arith, lit<, length-set}
 use Rattle.cckd_frames.specs.Nodes.{word, with_word, unlinked, linked}
 use Rattle.cckd_frames.specs.Table.{bucket_of, brought, given_up, taken, blanked, mark_of, entry_at}
-use Rattle.cckd_frames.proofs.Rings.{AreColumns, word-set_node, word-set_column, word-set_here, unlinked_column, linked_column}
+use Rattle.cckd_frames.proofs.RingLemmas.{AreColumns, word-set_node, word-set_column, word-set_here, unlinked_column, linked_column}
 
 -- the words of frame y stay where only those of frame x and links are written
 pub record KeepsContent (ws vs : List ℕ) (y : ℕ) : Type 0 where
@@ -64,34 +64,34 @@ module _ (count x key : ℕ) (ws : List ℕ) where
 
   pub blanked_other : (y : ℕ) → y ≢ x → KeepsContent ws (blanked x key ws) y
   blanked_other y ne =
-      let v1 = with_word ws 4 x key in let v2 = with_word v1 6 x 0 in
-      let go : (c : ℕ) → c < 9 → word (blanked x key ws) c y ≡ word ws c y = λ c hc. word-set_node v2 c 7 y x 0 hc (lit< tt) ne ∙ (word-set_node v1 c 6 y x 0 hc (lit< tt) ne ∙ word-set_node ws c 4 y x key hc (lit< tt) ne) in
+      let v1 = with_word ws 4 x key in let v2 = with_word v1 6 x 0 in let v3 = with_word v2 7 x 0 in
+      let go : (c : ℕ) → c < 9 → word (blanked x key ws) c y ≡ word ws c y = λ c hc. word-set_node v3 c 8 y x 0 hc (lit< tt) ne ∙ word-set_node v2 c 7 y x 0 hc (lit< tt) ne ∙ (word-set_node v1 c 6 y x 0 hc (lit< tt) ne ∙ word-set_node ws c 4 y x key hc (lit< tt) ne) in
       record { key = go 4 (lit< tt); len = go 6 (lit< tt); is_marked = go 7 (lit< tt); mark = go 8 (lit< tt) }
 
-  pub blanked_link : (c k : ℕ) → c < 9 → c ≢ 4 → c ≢ 6 → c ≢ 7 → word (blanked x key ws) c k ≡ word ws c k
-  blanked_link c k hc n4 n6 n7 =
-      let v1 = with_word ws 4 x key in let v2 = with_word v1 6 x 0 in
-      word-set_column v2 c 7 k x 0 hc (lit< tt) n7 ∙ (word-set_column v1 c 6 k x 0 hc (lit< tt) n6 ∙ word-set_column ws c 4 k x key hc (lit< tt) n4)
+  pub blanked_link : (c k : ℕ) → c < 9 → c ≢ 4 → c ≢ 6 → c ≢ 7 → c ≢ 8 → word (blanked x key ws) c k ≡ word ws c k
+  blanked_link c k hc n4 n6 n7 n8 =
+      let v1 = with_word ws 4 x key in let v2 = with_word v1 6 x 0 in let v3 = with_word v2 7 x 0 in
+      word-set_column v3 c 8 k x 0 hc (lit< tt) n8 ∙ word-set_column v2 c 7 k x 0 hc (lit< tt) n7 ∙ (word-set_column v1 c 6 k x 0 hc (lit< tt) n6 ∙ word-set_column ws c 4 k x key hc (lit< tt) n4)
 
   pub length-blanked : length (blanked x key ws) ≡ length ws
   length-blanked =
-      let v1 = with_word ws 4 x key in let v2 = with_word v1 6 x 0 in
-      length-set v2 (9 * x + 7) 0 ∙ (length-set v1 (9 * x + 6) 0 ∙ length-set ws (9 * x + 4) key)
+      let v1 = with_word ws 4 x key in let v2 = with_word v1 6 x 0 in let v3 = with_word v2 7 x 0 in
+      length-set v3 (9 * x + 8) 0 ∙ length-set v2 (9 * x + 7) 0 ∙ (length-set v1 (9 * x + 6) 0 ∙ length-set ws (9 * x + 4) key)
 
   module _ (size : 9 * x + 8 < length ws) where
     pub blanked_key : word (blanked x key ws) 4 x ≡ key
     blanked_key =
-        let u1 = with_word ws 4 x key in let u2 = with_word u1 6 x 0 in
-        word-set_column u2 4 7 x x 0 (lit< tt) (lit< tt) (omega arith) ∙ (word-set_column u1 4 6 x x 0 (lit< tt) (lit< tt) (omega arith) ∙ word-set_here ws 4 x key (omega arith))
+        let u1 = with_word ws 4 x key in let u2 = with_word u1 6 x 0 in let u3 = with_word u2 7 x 0 in
+        word-set_column u3 4 8 x x 0 (lit< tt) (lit< tt) (omega arith) ∙ word-set_column u2 4 7 x x 0 (lit< tt) (lit< tt) (omega arith) ∙ (word-set_column u1 4 6 x x 0 (lit< tt) (lit< tt) (omega arith) ∙ word-set_here ws 4 x key (omega arith))
 
     pub blanked_len : word (blanked x key ws) 6 x ≡ 0
     blanked_len =
-        let u1 = with_word ws 4 x key in let u2 = with_word u1 6 x 0 in
+        let u1 = with_word ws 4 x key in let u2 = with_word u1 6 x 0 in let u3 = with_word u2 7 x 0 in
         let l : length u1 ≡ length ws = length-set ws (9 * x + 4) key in
-        word-set_column u2 6 7 x x 0 (lit< tt) (lit< tt) (omega arith) ∙ word-set_here u1 6 x 0 (omega arith)
+        word-set_column u3 6 8 x x 0 (lit< tt) (lit< tt) (omega arith) ∙ word-set_column u2 6 7 x x 0 (lit< tt) (lit< tt) (omega arith) ∙ word-set_here u1 6 x 0 (omega arith)
 
     pub blanked_mark : word (blanked x key ws) 7 x ≡ 0
     blanked_mark =
-        let u1 = with_word ws 4 x key in let u2 = with_word u1 6 x 0 in
+        let u1 = with_word ws 4 x key in let u2 = with_word u1 6 x 0 in let u3 = with_word u2 7 x 0 in
         let l : length u1 ≡ length ws = length-set ws (9 * x + 4) key in let m : length u2 ≡ length u1 = length-set u1 (9 * x + 6) 0 in
-        word-set_here u2 7 x 0 (omega arith)
+        word-set_column u3 7 8 x x 0 (lit< tt) (lit< tt) (omega arith) ∙ word-set_here u2 7 x 0 (omega arith)

@@ -5,7 +5,7 @@ use Rattle.std.specs.List.{IsDistinct, AllByRecursion}
 use Rattle.std.specs.Bool.{nat_eq}
 use Rattle.cckd_frames.specs.Frames.{Entry, keys, frames, entry_of, entry_in, without, changed}
 use Rattle.cckd_frames.specs.Nodes.{word, In, IsApart, leave_out, IsPath}
-use Rattle.cckd_frames.proofs.Rings.{leave_out-same, leave_out-other}
+use Rattle.cckd_frames.proofs.RingLemmas.{leave_out-same, leave_out-other}
 
 pub map-take : (f : ℕ → Entry) (n : ℕ) (xs : List ℕ) → map f (take n xs) ≡ take n (map f xs)
 map-take f zero xs = refl

@@ -2,7 +2,7 @@
 use Rattle.std.proofs.Common.{◌≡◌, ◌≢◌, ◌⊎◌, ℕ, ◌+◌, ◌-◌, ◌*◌, ◌<◌, List, ◌∷◌, length, sym, ◌∙◌, subst, arith, lit<, length-set}
 use Rattle.cckd_frames.specs.Nodes.{word, leave_out, IsRing, unlinked, linked}
 use Rattle.cckd_frames.specs.Table.{IsIndex, IsMember, bucket_of, given_up, taken, blanked, one_less, one_more}
-use Rattle.cckd_frames.proofs.Rings.{ring_stays, word-set_column, unlinked_column, linked_column, length-unlinked, length-linked}
+use Rattle.cckd_frames.proofs.RingLemmas.{ring_stays, word-set_column, unlinked_column, linked_column, length-unlinked, length-linked}
 use Rattle.cckd_frames.proofs.Tables.{recency, chained, ring_unlinked, ring_linked, ring_as, index_kept, index_without, index_with}
 use Rattle.cckd_frames.proofs.Contents.{blanked_other, blanked_link, blanked_key, length-blanked}
 
@@ -51,7 +51,7 @@ part_taken count x key ws P xs hx npx fresh p =
     let other : (y : ℕ) → P y → y ≢ x = λ y py e. npx (subst P e py) in
     let m4 : (y : ℕ) → P y → word v0 4 y ≡ word ws 4 y = λ y py. (blanked_other count x key ws y (other y py)).key in
     let r0 : IsRing 0 1 v0 (2 * count) P xs = ring_stays 0 1 ws (2 * count) P xs v0 P (λ k q. q) (λ k q. q)
-    (λ k _. blanked_link count x key ws 0 k (lit< tt) (omega arith) (omega arith) (omega arith)) (λ k _. blanked_link count x key ws 1 k (lit< tt) (omega arith) (omega arith) (omega arith)) p.ring in
+    (λ k _. blanked_link count x key ws 0 k (lit< tt) (omega arith) (omega arith) (omega arith) (omega arith)) (λ k _. blanked_link count x key ws 1 k (lit< tt) (omega arith) (omega arith) (omega arith) (omega arith)) p.ring in
     let i0 : IsIndex count v0 P = record {
       within = p.index.within;
       one_key_each = λ y z py pz e. p.index.one_key_each y z py pz (sym (m4 y py) ∙ (e ∙ m4 z pz));
@@ -59,8 +59,8 @@ part_taken count x key ws P xs hx npx fresh p =
         t.0,
         ring_stays 2 3 ws c (IsMember count ws P c) t.0 v0 (IsMember count v0 P c)
             (λ k m. (m.0, rw (m4 k m.0) m.1)) (λ k m. (m.0, rw (m4 k m.0) at m.1))
-            (λ k _. blanked_link count x key ws 2 k (lit< tt) (omega arith) (omega arith) (omega arith)) (λ k _. blanked_link count x key ws 3 k (lit< tt) (omega arith) (omega arith) (omega arith)) t.1,
-        t.2 ∙ sym (blanked_link count x key ws 5 c (lit< tt) (omega arith) (omega arith) (omega arith)),
+            (λ k _. blanked_link count x key ws 2 k (lit< tt) (omega arith) (omega arith) (omega arith) (omega arith)) (λ k _. blanked_link count x key ws 3 k (lit< tt) (omega arith) (omega arith) (omega arith) (omega arith)) t.1,
+        t.2 ∙ sym (blanked_link count x key ws 5 c (lit< tt) (omega arith) (omega arith) (omega arith) (omega arith)),
       );
     } in
     let k4 : (k : ℕ) → word v1 4 k ≡ word v0 4 k = λ k. linked_column 0 1 (2 * count) x 4 k v0 recency (lit< tt) (omega arith) (omega arith) in

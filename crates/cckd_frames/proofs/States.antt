@@ -4,7 +4,7 @@ use Rattle.std.proofs.lemmas.Bool.Decides.{eqb_tells}
 use Rattle.cckd_frames.specs.Frames.{Entry, entry_of, entry_in, frame_of, without, promoted, blank}
 use Rattle.cckd_frames.specs.Nodes.{word, In, IsApart, leave_out, IsPath, trail, unlinked}
 use Rattle.cckd_frames.specs.Table.{IsTable, IsIndex, IsSound, bucket_of, node_with, brought, given_up, taken, blanked, chosen, cleared, mark_of, entry_at, entries_of}
-use Rattle.cckd_frames.proofs.Rings.{same_or_not, trail_of_path, unlinked_column, linked_column, in_rest, length-leave_out, apart_left_out, gone}
+use Rattle.cckd_frames.proofs.RingLemmas.{same_or_not, trail_of_path, unlinked_column, linked_column, in_rest, length-leave_out, apart_left_out, gone}
 use Rattle.cckd_frames.proofs.Tables.{recency, ring_brought, index_kept, bucket_low, bucket_high}
 use Rattle.cckd_frames.proofs.Entries.{map-same, map-take, last_in, last_out, entry_of-found, entry_of-none, without-map, entry_in-found, entry_in-used}
 use Rattle.cckd_frames.proofs.Contents.{KeepsContent, entry_kept, brought_content, given_up_content, placed_content, blanked_other, blanked_key, blanked_len, blanked_mark}

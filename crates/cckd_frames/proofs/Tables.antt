@@ -2,7 +2,7 @@
 use Rattle.std.proofs.Common.{◌≡◌, ◌≢◌, ◌⊎◌, inl, inr, ℕ, ◌+◌, ◌-◌, ◌*◌, ◌<◌, ◌≤◌, List, ◌∷◌, length, refl, sym, ap, ◌∙◌, subst, arith, lit<}
 use Rattle.cckd_frames.specs.Nodes.{word, leave_out, IsRing, unlinked, linked}
 use Rattle.cckd_frames.specs.Table.{IsIndex, IsMember, bucket_of, brought, one_less, one_more}
-use Rattle.cckd_frames.proofs.Rings.{same_or_not, length-leave_out, AreColumns, unlinked_joins, linked_between, unlinked_column, linked_column, length-unlinked, length-linked, ring_before, ring_after, ring_stays, ring_without, ring_with, IsJoined, IsBetween, word-set_node, word-set_column, word-set_here}
+use Rattle.cckd_frames.proofs.RingLemmas.{same_or_not, length-leave_out, AreColumns, unlinked_joins, linked_between, unlinked_column, linked_column, length-unlinked, length-linked, ring_before, ring_after, ring_stays, ring_without, ring_with, IsJoined, IsBetween, word-set_node, word-set_column, word-set_here}
 
 pub recency : AreColumns 0 1
 recency = record { first = lit< tt; second = lit< tt; differ = omega arith }

@@ -7,14 +7,18 @@ use Rattle.std.proofs.lemmas.Bool.Decides.{eqb_tells}
 use Rattle.std.specs.List.{IsDistinct, AllByRecursion}
 use Rattle.std.specs.Bool.{nat_eq}
 use Rattle.cckd_frames.specs.Frames.{Entry, IsKept, keys, frames, entry_of, changed, refilled, resized, with_len, with_mark, with_writes}
-use Rattle.cckd_frames.specs.Nodes.{word, with_word, In, IsApart, IsRing, trail}
+use Rattle.cckd_frames.specs.Nodes.{word, with_word, flag_of, mark_word, In, IsApart, IsRing, trail}
 use Rattle.cckd_frames.specs.Store.{over}
 use Rattle.cckd_frames.specs.Table.{IsTable, IsSound, IsEmptied, marked, mark_of, entry_at, entries_of}
-use Rattle.cckd_frames.proofs.Rings.{same_or_not, ring_stays, trail_of_path, word-set_node, word-set_column, word-set_here}
+use Rattle.cckd_frames.proofs.RingLemmas.{same_or_not, ring_stays, trail_of_path, word-set_node, word-set_column, word-set_here}
 use Rattle.cckd_frames.proofs.Tables.{index_kept}
 use Rattle.cckd_frames.proofs.Entries.{changed-map, frames-map, distinct_of, length-map, entry_of-absent}
 use Rattle.cckd_frames.proofs.States.{entries_are}
-use Rattle.cckd_frames.proofs.Bytes.{length-over, over-here, over-beside, frames_apart, length-part, refilled-same}
+use Rattle.cckd_frames.proofs.ByteLemmas.{length-over, over-here, over-beside, frames_apart, length-part, refilled-same}
+
+pub mark_back : (m : Option ℕ) → mark_of (flag_of m) (mark_word m) ≡ m
+mark_back None = refl
+mark_back (Some m) = refl
 
 pub none_is : {A : Type 0} (o : Option A) → IsNone o → o ≡ None
 none_is None h = refl
@@ -112,20 +116,18 @@ module _ (count frame_len used : ℕ) (ws bs : List ℕ) (s : IsSound count fram
 
   -- the mark of one entry
   marked_links : (x : ℕ) (mark : Option ℕ) (c k : ℕ) → c < 7 → word (marked x mark ws) c k ≡ word ws c k
-  marked_links x None c k h = word-set_column ws c 7 k x 0 (omega arith) (lit< tt) (omega arith)
-  marked_links x (Some m) c k h = word-set_column (with_word ws 7 x 1) c 8 k x m (omega arith) (lit< tt) (omega arith) ∙ word-set_column ws c 7 k x 1 (omega arith) (lit< tt) (omega arith)
+  marked_links x mark c k h =
+      word-set_column (with_word ws 7 x (flag_of mark)) c 8 k x (mark_word mark) (omega arith) (lit< tt) (omega arith) ∙ word-set_column ws c 7 k x (flag_of mark) (omega arith) (lit< tt) (omega arith)
 
   marked_others : (x : ℕ) (mark : Option ℕ) (c k : ℕ) → c < 9 → k ≢ x → word (marked x mark ws) c k ≡ word ws c k
-  marked_others x None c k h ne = word-set_node ws c 7 k x 0 h (lit< tt) ne
-  marked_others x (Some m) c k h ne = word-set_node (with_word ws 7 x 1) c 8 k x m h (lit< tt) ne ∙ word-set_node ws c 7 k x 1 h (lit< tt) ne
+  marked_others x mark c k h ne = word-set_node (with_word ws 7 x (flag_of mark)) c 8 k x (mark_word mark) h (lit< tt) ne ∙ word-set_node ws c 7 k x (flag_of mark) h (lit< tt) ne
 
   marked_here : (x : ℕ) (mark : Option ℕ) → x < count → mark_of (word (marked x mark ws) 7 x) (word (marked x mark ws) 8 x) ≡ mark
-  marked_here x None h = let size = s.table.size in rw (word-set_here ws 7 x 0 (omega arith)) refl
-  marked_here x (Some m) h =
-      let size = s.table.size in let l = length-set ws (9 * x + 7) 1 in
-      let a : word (marked x (Some m) ws) 7 x ≡ 1 = word-set_column (with_word ws 7 x 1) 7 8 x x m (lit< tt) (lit< tt) (omega arith) ∙ word-set_here ws 7 x 1 (omega arith) in
-      let b : word (marked x (Some m) ws) 8 x ≡ m = word-set_here (with_word ws 7 x 1) 8 x m (omega arith) in
-      rw (a, b) refl
+  marked_here x mark h =
+      let size = s.table.size in let l = length-set ws (9 * x + 7) (flag_of mark) in let v = with_word ws 7 x (flag_of mark) in
+      let a : word (marked x mark ws) 7 x ≡ flag_of mark = word-set_column v 7 8 x x (mark_word mark) (lit< tt) (lit< tt) (omega arith) ∙ word-set_here ws 7 x (flag_of mark) (omega arith) in
+      let b : word (marked x mark ws) 8 x ≡ mark_word mark = word-set_here v 8 x (mark_word mark) (omega arith) in
+      (λ i. mark_of (a i) (b i)) ∙ mark_back mark
 
   pub sound_marked : (x : ℕ) (mark : Option ℕ) → IsTable count (marked x mark ws) → IsSound count frame_len used (marked x mark ws) bs
   sound_marked x mark table = sound_same (marked x mark ws) bs (λ c k h. marked_links x mark c k (omega arith)) table (λ y h. rw (marked_links x mark 6 y (lit< tt)) (s.fitting y h)) s.room

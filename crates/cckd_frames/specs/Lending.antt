@@ -1,11 +1,8 @@
--- What a borrow of the words or of a part of the bytes writes back.
-use Rattle.std.specs.Borrow.{Lends, MutBor, Fml, Array, u8, u32}
+-- What a borrow of a part of the bytes writes back.
+use Rattle.std.specs.Borrow.{Lends, MutBor, Fml, Array, u8}
 use Rattle.std.specs.Prelude.{ℕ, List}
-use Rattle.cckd_frames.specs.Store.{Store, with_words, with_bytes}
-use Rattle.cckd_frames.specs.contracts.arena.Arena.{the_row as arena_row}
+use Rattle.cckd_frames.specs.Store.{Stored, with_part}
+use Rattle.cckd_frames.specs.contracts.bytes.Bytes.{the_row as bytes_row}
 
-abbrev pub LendsWords : MutBor Store → MutBor (List ℕ) → Fml
-LendsWords s r = Lends arena_row (Array u32 0) s r (with_words s.now)
-
-abbrev pub LendsBytes : MutBor Store → ℕ → ℕ → MutBor (List ℕ) → Fml
-LendsBytes s at n r = Lends arena_row (Array u8 0) s r (with_bytes at n s.now)
+abbrev pub LendsBytes : MutBor Stored → ℕ → ℕ → MutBor (List ℕ) → Fml
+LendsBytes b at n r = Lends bytes_row (Array u8 0) b r (with_part at n b.now)

@@ -1,7 +1,12 @@
 pub mod Frames
+pub mod Items
 pub mod Lending
 pub mod LendingBody
-pub mod LendingPart
+pub mod Links
 pub mod Nodes
+pub mod Ownership
+pub mod Placed
+pub mod RowLends
 pub mod Store
 pub mod Table
+pub mod Whole

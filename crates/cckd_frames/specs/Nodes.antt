@@ -1,5 +1,5 @@
 -- The words of the nodes, and how they are linked. Only this crate's own functions speak of them.
-use Rattle.std.specs.Prelude.{◌≡◌, ℕ, zero, suc, ◌+◌, ◌*◌, ◌⊎◌, ◌==◌, if◌then◌else◌, List, [], ◌∷◌, get_or, set}
+use Rattle.std.specs.Prelude.{◌≡◌, ℕ, zero, suc, ◌+◌, ◌*◌, ◌⊎◌, ◌==◌, if◌then◌else◌, List, [], ◌∷◌, get_or, set, Option, None, Some}
 
 -- word c of node x
 abbrev pub word : List ℕ → ℕ → ℕ → ℕ
@@ -48,3 +48,12 @@ unlinked c d x ws = with_word (with_word ws c (word ws d x) (word ws c x)) d (wo
 -- node x put into a ring after node a
 abbrev pub linked : ℕ → ℕ → ℕ → ℕ → List ℕ → List ℕ
 linked c d a x ws = with_word (with_word (with_word (with_word ws d x a) c x (word ws c a)) d (word ws c a) x) c a x
+
+-- a mark in two words: whether there is one, and which
+abbrev pub flag_of : Option ℕ → ℕ
+flag_of None = 0
+flag_of (Some m) = 1
+
+abbrev pub mark_word : Option ℕ → ℕ
+mark_word None = 0
+mark_word (Some m) = m

@@ -1,6 +1,6 @@
 -- The table of nodes: frames 0 to count - 1, then as many buckets, then the head. Only this crate's own functions speak of it.
 use Rattle.std.specs.Prelude.{◌≡◌, ℕ, zero, suc, ◌+◌, ◌-◌, ◌*◌, ◌%◌, ◌<◌, ◌≤◌, ◌==◌, if◌then◌else◌, List, [], ◌∷◌, length, take, drop, map, Option, None, Some}
-use Rattle.cckd_frames.specs.Nodes.{word, with_word, IsRing, trail, linked, unlinked}
+use Rattle.cckd_frames.specs.Nodes.{word, with_word, IsRing, trail, linked, unlinked, flag_of, mark_word}
 use Rattle.cckd_frames.specs.Frames.{Entry}
 
 -- the nine words of each node are there, and its four links name nodes
@@ -51,9 +51,13 @@ one_more b ws = with_word ws 5 b (word ws 5 b + 1)
 abbrev pub given_up : ℕ → ℕ → List ℕ → List ℕ
 given_up count x ws = one_less (bucket_of count (word ws 4 x)) (unlinked 2 3 x (unlinked 0 1 x ws))
 
+-- the words with this mark of frame x
+abbrev pub marked : ℕ → Option ℕ → List ℕ → List ℕ
+marked x mark ws = with_word (with_word ws 7 x (flag_of mark)) 8 x (mark_word mark)
+
 -- frame x takes a new entry with this key
 abbrev pub blanked : ℕ → ℕ → List ℕ → List ℕ
-blanked x key ws = with_word (with_word (with_word ws 4 x key) 6 x 0) 7 x 0
+blanked x key ws = marked x None (with_word (with_word ws 4 x key) 6 x 0)
 
 abbrev pub taken : ℕ → ℕ → ℕ → List ℕ → List ℕ
 taken count x key ws = one_more (bucket_of count key) (linked 2 3 (bucket_of count key) x (linked 0 1 (2 * count) x (blanked x key ws)))
@@ -78,11 +82,6 @@ pub record IsEmptied (count : ℕ) (ws vs : List ℕ) : Type 0 where
 abbrev pub mark_of : ℕ → ℕ → Option ℕ
 mark_of zero mark = None
 mark_of (suc n) mark = Some mark
-
--- the words with this mark of frame x
-abbrev pub marked : ℕ → Option ℕ → List ℕ → List ℕ
-marked x None ws = with_word ws 7 x 0
-marked x (Some mark) ws = with_word (with_word ws 7 x 1) 8 x mark
 
 -- what lies in frame x
 abbrev pub entry_at : ℕ → List ℕ → List ℕ → ℕ → Entry

@@ -1,11 +1,15 @@
-//! The list by recency, over the nodes and the bytes of the arena.
+//! The list by recency, over the nodes and the bytes of all frames.
 ghost use Rattle.std.specs.Prelude.{◌≡◌, ◌<◌, ◌≤◌, ◌-◌, ◌↔◌, [], ◌∷◌, length, take, slice_get, IfOk, IfSome, IsNone, IsSome, option_map};
 ghost use Rattle.std.specs.Borrow.{sem};
+ghost use Rattle.cckd_frames.specs.Whole.{back_of as back_nodes};
 
-use crate::arena::Arena;
-use crate::nodes::{
-    WORDS, bring, choose, clear, enter, frame_at, frame_with, key_of, last_frame, len_of, mark_at,
-    put_len, put_mark,
+use crate::block::{Deed, allocate, deallocate};
+use crate::bytes::{BytePtr, Bytes};
+use crate::node::{Node, NodePtr};
+use crate::nodes::Nodes;
+use crate::rings::{
+    bring, choose, clear, enter, frame_at, frame_with, key_of, last_key, len_of, mark_at, put_len,
+    put_mark,
 };
 use std::alloc::{AllocError, Global};
 use std::marker::Model;
@@ -19,9 +23,12 @@ pub struct Frame(pub u32);
 
 /// A bounded list of entries, most recent first. Each has a key, a mark and bytes, and lies in a
 /// frame of its own. Only `new` takes memory.
-#[derive(Drop)]
 pub struct Frames {
-    arena: Arena,
+    nodes: Nodes,
+    bytes: Bytes,
+    // The right to give the block back in which both lie.
+    deed: Deed<Node, Global>,
+    alloc: Global,
     count: u32,
     frame_len: u32,
     // The frames in use are those below this number.
@@ -34,10 +41,37 @@ impl Model for Frames {
     ghost Value = { Kept };
 
     ghost use Rattle.cckd_frames.specs.Table.{entries_of, IsSound};
+    ghost use Rattle.cckd_frames.specs.Whole.{IsWhole};
 
-    ghost view = { λ f. record { count = f.count; frame_len = f.frame_len; entries = entries_of f.count f.frame_len f.used f.arena.words f.arena.bytes } };
+    ghost view = { λ f. record { count = f.count; frame_len = f.frame_len; entries = entries_of f.count f.frame_len f.used f.nodes.words f.bytes.bytes } };
 
-    ghost invariant = { λ f. IsSound f.count f.frame_len f.used f.arena.words f.arena.bytes };
+    ghost invariant = { λ f. IsSound f.count f.frame_len f.used f.nodes.words f.bytes.bytes × IsWhole f.count f.frame_len f.nodes.first f.bytes.at f.bytes.room f.deed f.alloc };
+}
+
+/// How many nodes take the place of as many bytes, or a little more.
+fn back_of(len: usize) -> usize
+    requires { len ≤ 268435456 }
+    ensures { result ≡ back_nodes len }
+{
+    (len + 55) / 56
+}
+
+impl Drop for Frames {
+    fn drop(self) {
+        let Frames {
+            nodes,
+            bytes,
+            deed,
+            alloc,
+            count,
+            frame_len,
+            used: _,
+        } = self;
+        let front = 2 * count as usize + 1;
+        let back = back_of(count as usize * frame_len as usize);
+        let (row, first) = nodes.into_row();
+        deallocate(&alloc, first.ptr, front, back, row, bytes.into_row(), deed);
+    }
 }
 
 impl Frames {
@@ -51,12 +85,21 @@ impl Frames {
         ensures empty { IfOk result (λ f. f ≡ record { count = count; frame_len = frame_len; entries = [] }) }
         ensures kept { IfOk result IsKept }
     {
-        let nodes = 2 * count as usize + 1;
-        let bytes = count as usize * frame_len as usize;
-        let mut arena = Arena::new(alloc, WORDS * nodes, bytes)?;
-        clear(arena.words_mut(), count);
+        let front = 2 * count + 1;
+        let len = count as usize * frame_len as usize;
+        let back = back_of(len);
+        let (first, row, byte_row, deed) = allocate::<Node, Global>(&alloc, front as usize, back)?;
+        let behind = BytePtr {
+            ptr: unsafe { first.offset(front as isize) as *mut u8 },
+        };
+        let mut nodes = Nodes::new(row, NodePtr { ptr: first }, front);
+        let bytes = Bytes::new(byte_row, behind, len);
+        clear(&mut nodes, count);
         Ok(Frames {
-            arena,
+            nodes,
+            bytes,
+            deed,
+            alloc,
             count,
             frame_len,
             used: 0,
@@ -74,10 +117,10 @@ impl Frames {
         ensures kept { IsKept self.new }
     {
         let count = self.count;
-        let Some(frame) = frame_with(self.arena.words(), count, key) else {
+        let Some(frame) = frame_with(&self.nodes, count, key) else {
             return None;
         };
-        bring(self.arena.words_mut(), count, frame);
+        bring(&mut self.nodes, count, frame);
         Some(Frame(frame))
     }
 
@@ -87,7 +130,7 @@ impl Frames {
         ensures used { IfSome result (λ f. IsUsed f.0 self.now.entries) }
         ensures absent { IsNone result → IsNone (entry_of key self.now.entries) }
     {
-        match frame_with(self.arena.words(), self.count, key) {
+        match frame_with(&self.nodes, self.count, key) {
             Some(frame) => Some(Frame(frame)),
             None => None,
         }
@@ -99,8 +142,7 @@ impl Frames {
         ensures key { result ≡ slice_get (keys self.now.entries) (self.now.count - 1) }
     {
         if self.used == self.count {
-            let words = self.arena.words();
-            Some(key_of(words, self.count, last_frame(words, self.count)))
+            Some(last_key(&self.nodes, self.count))
         } else {
             None
         }
@@ -116,9 +158,8 @@ impl Frames {
     {
         let count = self.count;
         let used = self.used;
-        let words = self.arena.words_mut();
-        let frame = choose(words, count, used);
-        enter(words, count, frame, key);
+        let frame = choose(&mut self.nodes, count, used);
+        enter(&mut self.nodes, count, frame, key);
         self.used = count.min(used + 1);
         Frame(frame)
     }
@@ -128,9 +169,9 @@ impl Frames {
         requires { IsUsed f.0 self.now.entries }
         ensures { IfSome (entry_in f.0 self.now.entries) (λ e. result.now ≡ e.body) }
     {
-        let len = len_of(self.arena.words(), self.count, f.0) as usize;
+        let len = len_of(&self.nodes, self.count, f.0) as usize;
         let at = f.0 as usize * self.frame_len as usize;
-        self.arena.bytes(at, len)
+        self.bytes.part(at, len)
     }
 
     /// The same, to be written. They keep their number.
@@ -139,9 +180,9 @@ impl Frames {
         ensures* writes_back { sem 𝓛 (LendsBody self.entry f.0 result) }
         ensures value { IfSome (entry_in f.0 self.old.entries) (λ e. result.now ≡ e.body) }
     {
-        let len = len_of(self.arena.words(), self.count, f.0) as usize;
+        let len = len_of(&self.nodes, self.count, f.0) as usize;
         let at = f.0 as usize * self.frame_len as usize;
-        self.arena.bytes_mut(at, len)
+        self.bytes.part_mut(at, len)
     }
 
     /// Sets how many bytes the entry has. Those that it keeps stay, and new ones are zeros.
@@ -153,11 +194,12 @@ impl Frames {
         ensures kept { IsKept self.new }
     {
         let count = self.count;
-        let was = len_of(self.arena.words(), count, f.0);
+        let was = len_of(&self.nodes, count, f.0);
         let kept = was.min(len);
         let at = f.0 as usize * self.frame_len as usize + kept as usize;
-        self.arena.bytes_mut(at, (len - kept) as usize).fill(0);
-        put_len(self.arena.words_mut(), count, f.0, len);
+        let grown = (len - kept) as usize;
+        self.bytes.part_mut(at, grown).fill(0);
+        put_len(&mut self.nodes, count, f.0, len);
     }
 
     /// Sets the mark of the entry in this frame, or takes it away.
@@ -168,14 +210,14 @@ impl Frames {
         ensures kept { IsKept self.new }
     {
         let count = self.count;
-        put_mark(self.arena.words_mut(), count, f.0, at);
+        put_mark(&mut self.nodes, count, f.0, at);
     }
 
     pub fn marked(&self, f: Frame) -> Option<u32>
         requires { IsUsed f.0 self.now.entries }
         ensures { IfSome (entry_in f.0 self.now.entries) (λ e. result ≡ e.mark) }
     {
-        mark_at(self.arena.words(), self.count, f.0)
+        mark_at(&self.nodes, self.count, f.0)
     }
 
     /// The key of the entry that has `place` entries before it.
@@ -183,9 +225,8 @@ impl Frames {
         ensures { result ≡ slice_get (keys self.now.entries) place }
     {
         if place < self.used {
-            let words = self.arena.words();
-            let frame = frame_at(words, self.count, place);
-            Some(key_of(words, self.count, frame))
+            let frame = frame_at(&self.nodes, self.count, place);
+            Some(key_of(&self.nodes, self.count, frame))
         } else {
             None
         }
@@ -205,7 +246,7 @@ impl Frames {
         ensures kept { IsKept self.new }
     {
         let count = self.count;
-        clear(self.arena.words_mut(), count);
+        clear(&mut self.nodes, count);
         self.used = 0;
     }
 }

@@ -1,10 +1,12 @@
 //! A bounded list by recency whose entries lie in frames of one block of memory.
 #![tactic(auto)]
 
-mod arena;
+mod block;
+mod bytes;
 mod frames;
+mod node;
 mod nodes;
-mod part;
+mod rings;
 mod sending;
 #[cfg(test)]
 mod tests;

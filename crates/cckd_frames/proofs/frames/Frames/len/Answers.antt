@@ -6,7 +6,7 @@ use Rattle.cckd_frames.proofs.frames.Frames.len.Goals as goal
 
 pub returns-clause-len : goal.returns-clause-len
 returns-clause-len c =
-    let i = c.self.inside in sym (length-entries i.count i.frame_len i.used i.arena.words i.arena.bytes c.self.invariant) ∙ ap (λ (k : Kept). length k.entries) c.self.view_is
+    let i = c.self.inside in sym (length-entries i.count i.frame_len i.used i.nodes.words i.bytes.bytes c.self.invariant.0) ∙ ap (λ (k : Kept). length k.entries) c.self.view_is
 
 pub returns-clause-kept : goal.returns-clause-kept
-returns-clause-kept c = let i = c.self.inside in kept_here i.count i.frame_len i.used i.arena.words i.arena.bytes c.self.invariant c.args.self.now c.self.view_is
+returns-clause-kept c = let i = c.self.inside in kept_here i.count i.frame_len i.used i.nodes.words i.bytes.bytes c.self.invariant.0 c.args.self.now c.self.view_is

@@ -1,23 +1,36 @@
-use Rattle.std.proofs.Common.{◌≤◌, ◌*◌, ◌+◌, ℕ, List, length, refl, sym, ap, ◌∙◌, subst, arith}
+use Rattle.std.proofs.Common.{◌<◌, ◌≤◌, ◌*◌, ◌+◌, ℕ, List, length, refl, sym, ap, ◌∙◌, subst, arith}
 use Rattle.std.proofs.lemmas.List.{get_or-replicate, length-replicate}
+use Rattle.std.proofs.Math.Facts.{to_z_pos}
+use Rattle.std.proofs.Math.IntN.{nat_abs}
+use mir.Syntax.{w64}
+use denote.RawPtr.{Ptr, ◌+ₚ◌}
 use Rattle.cckd_frames.specs.Nodes.{word}
-use Rattle.cckd_frames.specs.Frames.{refilled}
-use Rattle.cckd_frames.specs.Table.{IsSound, IsEmptied}
-use Rattle.cckd_frames.proofs.Calls.{seen, lent_back, kept_here}
+use Rattle.cckd_frames.proofs.Calls.{seen, kept_here}
 use Rattle.cckd_frames.proofs.Writes.{sound_emptied}
 use Rattle.cckd_frames.proofs.frames.Frames.new.Goals as goal
 
 pub invariant_of-result : goal.invariant_of-result
 invariant_of-result c =
-    let a = c.in_ok-arena.arena in let new = c.clear.new.words in
-    let back = lent_back a.words c.words_mut.result.now new new c.words_mut.ensures.value c.clear.auto.words refl in
-    subst (λ (l : List ℕ). IsSound c.args.count c.args.frame_len 0 l a.bytes) (sym back)
-    (sound_emptied c.args.count c.args.frame_len a.words new a.bytes c.requires.count.0 c.requires.count.1 c.requires.frame_len.0 c.requires.frame_len.1
-    (λ x h. subst (λ (l : List ℕ). word l 6 x ≤ c.args.frame_len) (sym c.in_ok-arena.ensures.words) (rw (get_or-replicate {A = ℕ} (9 * (2 * c.args.count + 1)) (9 * x + 6) 0 0 (omega arith)) (omega arith)))
-    (ap (λ (l : List ℕ). length l) c.in_ok-arena.ensures.bytes ∙ length-replicate (c.args.count * c.args.frame_len) 0) c.clear.ensures.table
-    (subst (λ (l : List ℕ). IsEmptied c.args.count l new) c.words_mut.ensures.value c.clear.ensures.emptied))
+    let ws = c.new-nodes.result.words in let bs = c.new-bytes.result.bytes in
+    let block = c.in_ok-first.ensures in
+    let first = c.clear.ensures.first ∙ c.new-nodes.ensures.first in
+    let few : 2 * c.args.count + 1 < 9223372036854775808 = (let most = c.requires.count.1 in omega arith) in
+    let far = ap nat_abs (to_z_pos w64 {n = 2 * c.args.count + 1} few) in
+    let back = c.back_of-back.ensures in (
+      sound_emptied c.args.count c.args.frame_len ws c.clear.new.nodes.words bs c.requires.count.0 c.requires.count.1 c.requires.frame_len.0 c.requires.frame_len.1
+          (λ x h. subst (λ (l : List ℕ). word l 6 x ≤ c.args.frame_len) (sym c.new-nodes.ensures.words) (rw (get_or-replicate {A = ℕ} (9 * (2 * c.args.count + 1)) (9 * x + 6) 0 0 (omega arith)) (omega arith)))
+          (ap (λ (l : List ℕ). length l) c.new-bytes.ensures.zeros ∙ length-replicate (c.args.count * c.args.frame_len) 0) c.clear.ensures.table c.clear.ensures.emptied,
+      record {
+        deed_at = block.7 ∙ sym first;
+        front = block.8;
+        back = block.9 ∙ back;
+        from = block.10;
+        behind = c.new-bytes.ensures.place.0 ∙ c.offset.ensures.value ∙ ap (λ n. c.in_ok-first.first +ₚ n * 56) far ∙ ap (λ (p : Ptr). p +ₚ (2 * c.args.count + 1) * 56) (sym first);
+        roomy = c.new-bytes.ensures.place.1 ∙ block.5 ∙ ap (λ n. n * 56) back;
+      },
+    )
 
 pub returns-clause-kept : goal.returns-clause-kept
 returns-clause-kept c =
-    let a = c.in_ok-arena.arena in let ws = refilled a.words c.clear.new.words in
-    kept_here c.args.count c.args.frame_len 0 ws a.bytes (invariant_of-result c) (seen c.args.count c.args.frame_len 0 ws a.bytes) refl
+    let ws = c.clear.new.nodes.words in let bs = c.new-bytes.result.bytes in
+    kept_here c.args.count c.args.frame_len 0 ws bs (invariant_of-result c).0 (seen c.args.count c.args.frame_len 0 ws bs) refl

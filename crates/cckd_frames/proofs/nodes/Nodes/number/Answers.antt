@@ -1,0 +1,8 @@
+use Rattle.cckd_frames.proofs.Placing.{is_item, number_read}
+use Rattle.cckd_frames.proofs.nodes.Nodes.number.Goals as goal
+
+pub item-requires : goal.item-requires
+item-requires c = let i = c.self.inside in is_item i.first.ptr i.row c.args.self.now c.self.view_is c.self.invariant c.args.at.ptr c.requires
+
+pub returns : goal.returns
+returns c = let i = c.self.inside in number_read i.first.ptr i.row c.args.self.now c.self.view_is c.self.invariant c.args.at.ptr c.requires c.item.result.now c.item.ensures
