@@ -1,5 +1,5 @@
 -- The first piece that passes a test, by its index.
-use Rattle.std.proofs.Common.{◌≡◌, ℕ, zero, suc, ◌+◌, ◌<◌, ◌≤◌, Bool, true, false, List, [], ◌∷◌, ◌++◌, length, take, drop, get_or, slice_set, Option, Some, None, refl, sym, ◌∙◌, ap, arith, add-one, position, nat_lt, IsSome}
+use Rattle.std.proofs.Common.{◌≡◌, ℕ, zero, suc, ◌+◌, ◌<◌, ◌≤◌, Bool, true, false, List, [], ◌∷◌, ◌++◌, length, take, drop, get_or, slice_set, Option, Some, None, refl, sym, ◌∙◌, ap, arith, add-one, position, nat_lt}
 use Rattle.std.specs.Option.{option_map}
 use Rattle.std.specs.List.{position_or_len}
 use Rattle.std.proofs.lemmas.Bool.{ltb-false}
@@ -57,11 +57,6 @@ module _ (test : Piece → Bool) where
   replaced_read news xs ys i x y e s r n =
       let f = is_first xs i x (rw (← s) e) in
       ap (λ (w : Piece). slice_set xs i w) (n ∙ ap news r) ∙ sym (replaced_by news xs i x f)
-
-  pub is_there : (xs ys : List Piece) → IsSome (first test xs) → position test ys ≡ None → ys ≡ xs → ⊥
-  is_there xs ys h e s =
-      let n : first test xs ≡ None = none_passes xs (rw (← s) e) in
-      absurd (let e : false ≡ true = rw n at h in cc)
 
   pub mapped_first : (f : Piece → ℕ) (xs : List Piece) (i : ℕ) (d : Piece) → position test xs ≡ Some i → option_map f (first test xs) ≡ Some (f (get_or xs i d))
   mapped_first f xs i d e = ap (option_map f) (first_at xs i d (is_first xs i d e))

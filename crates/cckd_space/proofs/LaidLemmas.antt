@@ -245,9 +245,6 @@ laid_freed test ps end h = laid-merged 0 (replaced test (λ p. freed p ∷ []) p
 pub laid_released : (ps : List Piece) (end : ℕ) → IsLaid 0 ps end → IsLaid 0 (merged (map released ps)) end
 laid_released ps end h = laid-merged 0 (map released ps) end (released_row ps end h)
 
-pub freed_size : (test : Piece → Bool) (ps : List Piece) (end : ℕ) → IsLaid 0 ps end → size_of (replaced test (λ p. freed p ∷ []) ps) ≡ end
-freed_size test ps end h = let r = row_size 0 (replaced test (λ p. freed p ∷ []) ps) end (freed_row test ps end h) in omega (arith, r)
-
 pub released_size : (ps : List Piece) (end : ℕ) → IsLaid 0 ps end → size_of (map released ps) ≡ end
 released_size ps end h = let r = row_size 0 (map released ps) end (released_row ps end h) in omega (arith, r)
 
@@ -302,9 +299,6 @@ laid_pieces_of at (e ∷ es) size h =
 pub used_le : (at : ℕ) (es : List Extent) (size : ℕ) → AreUsed at es size → at ≤ size
 used_le at [] size h = h
 used_le at (e ∷ es) size h = let r = used_le (e.pos + e.size) es size h.3 in omega (arith, r, h.0)
-
-pub cut_all : (ps : List Piece) (size : ℕ) → cut 0 size ps ≡ trimmed ps
-cut_all ps size = ap (λ (l : List Piece). trimmed ps ++ l) (free_run_none (used_end ps) (min 0 size) (omega arith)) ∙ append-nil (trimmed ps)
 
 pub used_end_le : (at : ℕ) (p : Piece) (ps : List Piece) (end : ℕ) → IsLaid at (p ∷ ps) end → used_end (p ∷ ps) ≤ end
 used_end_le at p [] end h = cond_both (is_free p) p.pos (piece_end p) (λ (n : ℕ). n ≤ end) (λ e. omega (arith, h.0.place, h.2)) (λ e. omega (arith, h.0.place, h.2))

@@ -3,3 +3,7 @@ pub mod EndLemmas
 pub mod FirstLemmas
 pub mod MergeLemmas
 pub mod NumberLemmas
+pub mod SearchLemmas
+pub mod KeptLemmas
+pub mod CallerLemmas
+pub mod UsedLemmas

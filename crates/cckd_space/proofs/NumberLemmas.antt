@@ -1,6 +1,6 @@
 -- The numbers of a list of pieces that cover a file.
 use Rattle.std.proofs.Common.{◌≡◌, ℕ, zero, suc, ◌+◌, ◌-◌, ◌*◌, ◌<◌, ◌≤◌, nat_le, Bool, true, false, cond, ◌&&◌, List, [], ◌∷◌, length, get_or, Some, None, refl, ap, arith, position}
-use Rattle.std.proofs.lemmas.Bool.{cond_both, leb-true, leb-false, and_parts}
+use Rattle.std.proofs.lemmas.Bool.{cond_both, leb-true, leb-false, and_parts, false_from_ne_true}
 use Rattle.cckd_base.specs.declared.space.Owner.TheVariants.{Nobody}
 use Rattle.cckd_space.specs.declared.piece.Kind.TheVariants.{Used, Free, Reserved, Leaving, Pending}
 use Rattle.cckd_space.specs.declared.piece.Piece.{Piece}
@@ -8,6 +8,7 @@ use Rattle.cckd_space.specs.Pieces.{is_free, is_roomy, is_roomy_from, used_kind,
 use Rattle.cckd_space.specs.Plan.{free_from}
 use Rattle.cckd_space.proofs.LaidLemmas.{room_facts, laid_le}
 use Rattle.cckd_space.proofs.FirstLemmas.{is_first, first_at, none_passes}
+use Rattle.cckd_space.proofs.SearchLemmas.{no_position}
 
 pub greatest_ge : (f : Piece → ℕ) (xs : List Piece) (i : ℕ) (d : Piece) → i < length xs → f (get_or xs i d) ≤ greatest f xs
 greatest_ge f [] i d h = absurd (omega arith)
@@ -102,3 +103,11 @@ pub no_free : (from : ℕ) (xs ys : List Piece) → position (is_roomy_from from
 no_free from xs ys e s =
     let f = none_passes (is_roomy_from from) xs (rw (← s) e) in
     rw f refl
+
+pub small_none : (test : Piece → Bool) (need : ℕ) → ((p : Piece) → test p ≡ true → has_room need p ≡ true) → (xs : List Piece) → largest xs < need → position test xs ≡ None
+small_none test need has xs h =
+    let d : Piece = record { pos = 0; len = 0; size = 0; kind = Used; owner = Nobody } in
+    no_position test xs d (λ k l. false_from_ne_true (test (get_or xs k d)) (λ e.
+    let o = offers need (get_or xs k d) (has (get_or xs k d) e) in
+    let g = greatest_ge offer xs k d l in
+    omega (arith, o, g)))

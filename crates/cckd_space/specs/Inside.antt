@@ -1,13 +1,38 @@
 -- What always holds of the fields of a `Space`, and words for its parts.
-use Rattle.std.specs.Prelude.{◌≡◌, ℕ, ◌+◌, ◌<◌, ◌≤◌, List, [], ◌∷◌, ◌++◌, length, slice_index_or}
+use Rattle.std.specs.Prelude.{◌≡◌, ℕ, zero, suc, ◌+◌, ◌<◌, ◌≤◌, false, List, [], ◌∷◌, ◌++◌, length, slice_index_or}
 use Rattle.cckd_space.specs.declared.piece.Piece.{Piece}
-use Rattle.cckd_space.specs.Pieces.{IsLaid, piece_end}
+use Rattle.cckd_space.specs.Pieces.{IsApart, IsLaid, is_free, largest, piece_end}
 
--- the pieces cover the file, there are no more than the slots, and there is memory for as many as the slots
-pub record IsKept (pieces : List Piece) (size slots capacity : ℕ) : Type 0 where
+-- so many first pieces are there, and none of them is Free
+abbrev pub IsShut : ℕ → List Piece → Type 0
+IsShut zero ps = Unit {0}
+IsShut (suc n) [] = ⊥
+IsShut (suc n) (p ∷ ps) = (is_free p ≡ false) × IsShut n ps
+
+-- the pieces cover the file, there are no more than the slots, and there is memory for as many as the slots;
+-- no piece before an index is Free, and none offers more than a number of bytes
+pub record IsKept (pieces : List Piece) (size slots capacity solid most : ℕ) : Type 0 where
   pub laid : IsLaid 0 pieces size
   pub fewer : length pieces ≤ slots
   pub room : slots ≤ capacity
+  pub within : solid ≤ length pieces
+  pub shut : IsShut solid pieces
+  pub offers : largest pieces ≤ most
+
+-- each piece begins before those behind it
+pub record IsInOrder (pieces : List Piece) : Type 0 where
+  pub each : (i j : ℕ) (d : Piece) → i < j → j < length pieces → (slice_index_or pieces i d).pos < (slice_index_or pieces j d).pos
+
+-- the pieces before an index begin before a place, and the others at it or behind it
+pub record StartsAt (pos : ℕ) (pieces : List Piece) (at : ℕ) : Type 0 where
+  pub within : at ≤ length pieces
+  pub before : (k : ℕ) (d : Piece) → k < at → (slice_index_or pieces k d).pos < pos
+  pub behind : (k : ℕ) (d : Piece) → at ≤ k → k < length pieces → pos ≤ (slice_index_or pieces k d).pos
+
+-- no two neighbours are Free
+abbrev pub AreApart : List Piece → Type 0
+AreApart [] = Unit {0}
+AreApart (p ∷ ps) = IsApart p ps × AreApart ps
 
 -- the bytes of all pieces
 abbrev pub size_of : List Piece → ℕ

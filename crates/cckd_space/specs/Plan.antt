@@ -1,11 +1,11 @@
 -- What callers see of a `Space`, and what each call makes of it.
-use Rattle.std.specs.Prelude.{◌≡◌, ℕ, ◌+◌, ◌-◌, ◌≤◌, ◌%◌, length, List, Option, None, Some}
+use Rattle.std.specs.Prelude.{◌≡◌, ℕ, ◌+◌, ◌-◌, ◌<◌, ◌≤◌, ◌%◌, Bool, ◌&&◌, nat_le, nat_lt, length, List, Option, None, Some}
 use Rattle.std.specs.Option.{option_map, unwrap_or}
 use Rattle.cckd_base.specs.declared.space.Full.{Full}
 use Rattle.cckd_base.specs.declared.space.Extent.{Extent}
 use Rattle.cckd_space.specs.declared.piece.Piece.{Piece}
 use Rattle.cckd_space.specs.declared.piece.Totals.{Totals}
-use Rattle.cckd_space.specs.Pieces.{first, replaced, has_room, has_room_below, reserved_in, appended, end_place, aligned_up, largest, IsLaid, is_roomy, is_roomy_from, pieces_of, roomy_len, used_len, greatest, summed, counted}
+use Rattle.cckd_space.specs.Pieces.{first, replaced, has_room, has_room_below, reserved_in, appended, end_place, aligned_up, largest, IsLaid, piece_end, is_free, is_used, is_roomy, is_roomy_from, pieces_of, roomy_len, used_len, greatest, summed, counted}
 
 -- the pieces of a file, its size, the size that it may grow to, and how many pieces may still be added
 pub record Plan : Type 0 where
@@ -17,6 +17,16 @@ pub record Plan : Type 0 where
 -- the pieces cover the file, each byte once, and no two Free ones are neighbours
 pub record IsSound (plan : Plan) : Type 0 where
   pub laid : IsLaid 0 plan.pieces plan.size
+
+-- a byte of the file lies in a piece
+abbrev pub has_byte : ℕ → Piece → Bool
+has_byte at p = nat_le p.pos at && nat_lt at (piece_end p)
+
+-- each byte of the file lies in one piece, none beyond it does, and no byte is both used and free
+pub record CoversBytes (plan : Plan) : Type 0 where
+  pub within : (at : ℕ) → at < plan.size → counted (has_byte at) plan.pieces ≡ 1
+  pub beyond : (at : ℕ) → plan.size ≤ at → counted (has_byte at) plan.pieces ≡ 0
+  pub apart : (at : ℕ) → counted (λ p. is_used p && has_byte at p) plan.pieces + counted (λ p. is_free p && has_byte at p) plan.pieces ≤ 1
 
 -- the pieces and the size are these now; the rest stays, and the spare pieces went where they were used
 pub record Becomes (old new : Plan) (pieces : List Piece) (size : ℕ) : Type 0 where

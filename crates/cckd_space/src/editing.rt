@@ -24,9 +24,11 @@ ghost use Rattle.cckd_space.specs.Pieces.{
   settled,
   left,
   freed,
+  largest,
+  offer,
 };
 ghost use Rattle.std.specs.Option.{option_map};
-ghost use Rattle.cckd_space.specs.Inside.{size_of, EndsAt, EndsBelow};
+ghost use Rattle.cckd_space.specs.Inside.{size_of, AreApart, EndsAt, EndsBelow, IsInOrder, IsShut};
 
 use crate::finding::{reserved_index, room_below_index, used_index};
 use crate::piece::{Piece, align, free, reserved};
@@ -79,8 +81,18 @@ pub(crate) fn reserve_found(pieces: &mut Vec<Piece>, at: usize, need: u32) -> u3
     reserve_at(pieces, at, need)
 }
 
-/// Reserves so many bytes at the first fit that ends at or below a place, and answers where.
-pub(crate) fn reserve_below(pieces: &mut Vec<Piece>, need: u32, before: u32) -> Option<u32>
+/// Reserves so many bytes at the first fit that ends at or below a place, and answers where. No
+/// piece before `solid` is Free.
+pub(crate) fn reserve_below(
+    pieces: &mut Vec<Piece>,
+    solid: usize,
+    need: u32,
+    before: u32,
+) -> Option<u32>
+    requires some { 0 < need }
+    requires within { solid ≤ vec_len pieces.old }
+    requires shut { IsShut solid pieces.old.items }
+    requires order { IsInOrder pieces.old.items }
     requires room { vec_len pieces.old + 2 ≤ vec_capacity pieces.old }
     requires ends { EndsBelow pieces.old.items (2 ^ 32) }
     ensures place { result ≡ option_map (λ p. aligned_up p.pos) (first (has_room_below need before) pieces.old.items) }
@@ -88,7 +100,7 @@ pub(crate) fn reserve_below(pieces: &mut Vec<Piece>, need: u32, before: u32) -> 
     ensures len { vec_len pieces.new ≤ vec_len pieces.old + 2 }
     ensures capacity { vec_capacity pieces.old ≤ vec_capacity pieces.new }
 {
-    let Some(at) = room_below_index(pieces.as_slice(), need, before) else {
+    let Some(at) = room_below_index(pieces.as_slice(), solid, need, before) else {
         return None;
     };
     Some(reserve_at(pieces, at, need))
@@ -147,44 +159,73 @@ pub(crate) fn reserve_end(pieces: &mut Vec<Piece>, end: u32, size: u32, need: u3
 
 /// Turns the Reserved piece at `pos` into a Used one.
 pub(crate) fn settle_piece(pieces: &mut Vec<Piece>, pos: u32, len: u32, owner: Owner)
-    requires { IsSome (first (is_reserved_at pos) pieces.old.items) }
+    requires there { IsSome (first (is_reserved_at pos) pieces.old.items) }
+    requires order { IsInOrder pieces.old.items }
     ensures items { pieces.new.items ≡ replaced (is_reserved_at pos) (λ p. settled len owner p ∷ []) pieces.old.items }
     ensures len { vec_len pieces.new ≡ vec_len pieces.old }
     ensures capacity { vec_capacity pieces.old ≤ vec_capacity pieces.new }
 {
-    let Some(at) = reserved_index(pieces.as_slice(), pos) else {
-        unreachable!();
-    };
+    let at = reserved_index(pieces.as_slice(), pos);
     let piece = pieces[at];
     pieces[at] = piece.settled(len, owner);
 }
 
 /// Turns the Used piece at `pos` into a Leaving one.
 pub(crate) fn leave_piece(pieces: &mut Vec<Piece>, pos: u32)
-    requires { IsSome (first (is_used_at pos) pieces.old.items) }
+    requires there { IsSome (first (is_used_at pos) pieces.old.items) }
+    requires order { IsInOrder pieces.old.items }
     ensures items { pieces.new.items ≡ replaced (is_used_at pos) (λ p. left p ∷ []) pieces.old.items }
     ensures len { vec_len pieces.new ≡ vec_len pieces.old }
     ensures capacity { vec_capacity pieces.old ≤ vec_capacity pieces.new }
 {
-    let Some(at) = used_index(pieces.as_slice(), pos) else {
-        unreachable!();
-    };
+    let at = used_index(pieces.as_slice(), pos);
     let piece = pieces[at];
     pieces[at] = piece.left();
 }
 
-/// Turns the Reserved piece at `pos` into a Free one.
-pub(crate) fn free_piece_at(pieces: &mut Vec<Piece>, pos: u32)
-    requires { IsSome (first (is_reserved_at pos) pieces.old.items) }
-    ensures items { pieces.new.items ≡ replaced (is_reserved_at pos) (λ p. freed p ∷ []) pieces.old.items }
-    ensures len { vec_len pieces.new ≡ vec_len pieces.old }
+/// Makes the piece at this index one with the next where both are Free, and answers what it offers
+/// then.
+fn join_next(pieces: &mut Vec<Piece>, at: usize) -> u64
+    requires within { at < vec_len pieces.old }
+    requires sizes { size_of pieces.old.items < 2 ^ 32 }
+    ensures items { (d : Piece) → pieces.new.items ≡ take at pieces.old.items ++ joined (slice_index_or pieces.old.items at d) (drop (at + 1) pieces.old.items) }
+    ensures offers { (d : Piece) → result ≡ offer (slice_index_or pieces.new.items at d) }
+    ensures len { vec_len pieces.new ≤ vec_len pieces.old }
     ensures capacity { vec_capacity pieces.old ≤ vec_capacity pieces.new }
 {
-    let Some(at) = reserved_index(pieces.as_slice(), pos) else {
-        unreachable!();
-    };
+    let piece = pieces[at];
+    if at + 1 == pieces.len() {
+        return piece.offer();
+    }
+    let next = pieces[at + 1];
+    if !piece.joins(&next) {
+        return piece.offer();
+    }
+    let whole = free(piece.pos, piece.size + next.size);
+    let _next = pieces.remove(at + 1);
+    pieces[at] = whole;
+    whole.offer()
+}
+
+/// Turns the piece at this index into a Free one, merges it with its neighbours, and answers the
+/// greatest number of bytes that is offered there then.
+pub(crate) fn free_at(pieces: &mut Vec<Piece>, at: usize) -> u64
+    requires within { at < vec_len pieces.old }
+    requires apart { AreApart pieces.old.items }
+    requires sizes { size_of pieces.old.items < 2 ^ 32 }
+    ensures items { (d : Piece) → pieces.new.items ≡ merged (take at pieces.old.items ++ freed (slice_index_or pieces.old.items at d) ∷ drop (at + 1) pieces.old.items) }
+    ensures offers { largest pieces.new.items ≤ max (largest pieces.old.items) result }
+    ensures len { vec_len pieces.new ≤ vec_len pieces.old }
+    ensures capacity { vec_capacity pieces.old ≤ vec_capacity pieces.new }
+{
     let piece = pieces[at];
     pieces[at] = free(piece.pos, piece.size);
+    let behind = join_next(pieces, at);
+    if at == 0 {
+        return behind;
+    }
+    let before = join_next(pieces, at - 1);
+    before.max(behind)
 }
 
 /// Turns what is Leaving into Pending.

@@ -1,41 +1,117 @@
 //! Where a piece stands in the list.
-ghost use Rattle.std.specs.Prelude.{◌≡◌, position};
-ghost use Rattle.cckd_space.specs.Pieces.{has_room, has_room_below, is_reserved_at, is_used_at, is_roomy, is_roomy_from};
+ghost use Rattle.std.specs.Prelude.{◌≡◌, ◌<◌, ◌≤◌, length, position, IsSome, IsTrue, Some, slice_index_or};
+ghost use Rattle.cckd_space.specs.Inside.{IsInOrder, IsShut, StartsAt};
+ghost use Rattle.cckd_space.specs.Pieces.{first, has_room, has_room_below, is_free, is_reserved_at, is_roomy_from, is_used_at};
 
 use crate::piece::Piece;
 
-pub(crate) fn room_index(pieces: &[Piece], need: u32) -> Option<usize>
+/// How many pieces begin before a place.
+pub(crate) fn start_index(pieces: &[Piece], pos: u32) -> usize
+    requires { IsInOrder pieces.now }
+    ensures { StartsAt pos pieces.now result }
+{
+    pieces.partition_point(|p| p.pos < pos)
+}
+
+/// The index of the Reserved piece at `pos`.
+pub(crate) fn reserved_index(pieces: &[Piece], pos: u32) -> usize
+    requires there { IsSome (first (is_reserved_at pos) pieces.now) }
+    requires order { IsInOrder pieces.now }
+    ensures { position (is_reserved_at pos) pieces.now ≡ Some result }
+{
+    start_index(pieces, pos)
+}
+
+/// The index of the Used piece at `pos`.
+pub(crate) fn used_index(pieces: &[Piece], pos: u32) -> usize
+    requires there { IsSome (first (is_used_at pos) pieces.now) }
+    requires order { IsInOrder pieces.now }
+    ensures { position (is_used_at pos) pieces.now ≡ Some result }
+{
+    start_index(pieces, pos)
+}
+
+/// The index of the first Free piece, none of which stands before `solid`, or else the number of
+/// pieces.
+pub(crate) fn free_index(pieces: &[Piece], solid: usize) -> usize
+    requires within { solid ≤ length pieces.now }
+    requires shut { IsShut solid pieces.now }
+    ensures within { result ≤ length pieces.now }
+    ensures shut { IsShut result pieces.now }
+    ensures free { (d : Piece) → result < length pieces.now → IsTrue (is_free (slice_index_or pieces.now result d)) }
+{
+    let mut at = solid;
+    while at < pieces.len() {
+        if pieces[at].is_free() {
+            return at;
+        }
+        at += 1;
+    }
+    at
+}
+
+fn first_room(pieces: &[Piece], need: u32) -> Option<usize>
     ensures { result ≡ position (has_room need) pieces.now }
 {
     pieces.iter().position(|p| p.has_room(need))
 }
 
-pub(crate) fn room_below_index(pieces: &[Piece], need: u32, before: u32) -> Option<usize>
+fn first_room_below(pieces: &[Piece], need: u32, before: u32) -> Option<usize>
     ensures { result ≡ position (has_room_below need before) pieces.now }
 {
     pieces.iter().position(|p| p.has_room_below(need, before))
 }
 
-pub(crate) fn reserved_index(pieces: &[Piece], pos: u32) -> Option<usize>
-    ensures { result ≡ position (is_reserved_at pos) pieces.now }
-{
-    pieces.iter().position(|p| p.is_reserved_at(pos))
-}
-
-pub(crate) fn used_index(pieces: &[Piece], pos: u32) -> Option<usize>
-    ensures { result ≡ position (is_used_at pos) pieces.now }
-{
-    pieces.iter().position(|p| p.is_used_at(pos))
-}
-
-pub(crate) fn roomy_index(pieces: &[Piece]) -> Option<usize>
-    ensures { result ≡ position is_roomy pieces.now }
-{
-    pieces.iter().position(|p| p.is_roomy())
-}
-
-pub(crate) fn roomy_index_from(pieces: &[Piece], from: u32) -> Option<usize>
+fn first_roomy(pieces: &[Piece], from: u32) -> Option<usize>
     ensures { result ≡ position (is_roomy_from from) pieces.now }
 {
     pieces.iter().position(|p| p.is_roomy_from(from))
+}
+
+/// The first piece in which so many bytes fit. No piece before `solid` is Free.
+pub(crate) fn room_index(pieces: &[Piece], solid: usize, need: u32) -> Option<usize>
+    requires within { solid ≤ length pieces.now }
+    requires shut { IsShut solid pieces.now }
+    ensures { result ≡ position (has_room need) pieces.now }
+{
+    let Some(at) = first_room(&pieces[solid..], need) else {
+        return None;
+    };
+    Some(solid + at)
+}
+
+/// The first piece in which so many bytes fit and end at or below a place. No piece before `solid`
+/// is Free.
+pub(crate) fn room_below_index(
+    pieces: &[Piece],
+    solid: usize,
+    need: u32,
+    before: u32,
+) -> Option<usize>
+    requires some { 0 < need }
+    requires within { solid ≤ length pieces.now }
+    requires shut { IsShut solid pieces.now }
+    requires order { IsInOrder pieces.now }
+    ensures { result ≡ position (has_room_below need before) pieces.now }
+{
+    let end = start_index(pieces, before).max(solid);
+    let Some(at) = first_room_below(&pieces[solid..end], need, before) else {
+        return None;
+    };
+    Some(solid + at)
+}
+
+/// The first free piece of at least 8 bytes that starts at or after a place. No piece before `solid`
+/// is Free.
+pub(crate) fn roomy_index(pieces: &[Piece], solid: usize, from: u32) -> Option<usize>
+    requires within { solid ≤ length pieces.now }
+    requires shut { IsShut solid pieces.now }
+    requires order { IsInOrder pieces.now }
+    ensures { result ≡ position (is_roomy_from from) pieces.now }
+{
+    let start = start_index(pieces, from).max(solid);
+    let Some(at) = first_roomy(&pieces[start..], from) else {
+        return None;
+    };
+    Some(start + at)
 }

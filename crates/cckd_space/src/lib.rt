@@ -1,10 +1,14 @@
 //! The space of one image: which bytes are in use, which are free, and where new bytes go.
 #![tactic(auto)]
 
+#[cfg(test)]
+mod beside;
 mod editing;
 mod finding;
 mod making;
 mod piece;
+#[cfg(test)]
+mod plain;
 mod space;
 #[cfg(test)]
 mod tests;

@@ -1,5 +1,5 @@
 //! What a space is made of: pieces, each of one kind.
-ghost use Rattle.std.specs.Prelude.{◌≡◌, ◌+◌, ◌<◌, ◌^◌};
+ghost use Rattle.std.specs.Prelude.{◌≡◌, ◌+◌, ◌<◌, ◌^◌, ◌&&◌};
 ghost use Rattle.cckd_space.specs.Pieces.{
   is_free,
   is_used,
@@ -201,6 +201,13 @@ impl Piece {
         ensures { result ≡ has_room_below need before self.now }
     {
         self.has_room(need) && align(self.pos) + need as u64 <= before as u64
+    }
+
+    /// Whether it is one piece with the next: both are Free.
+    pub(crate) fn joins(&self, next: &Piece) -> bool
+        ensures { result ≡ (is_free self.now && is_free next.now) }
+    {
+        self.is_free() && next.is_free()
     }
 
     pub(crate) fn settled(&self, len: u32, owner: Owner) -> Piece

@@ -1,17 +1,15 @@
 //! The space of a file.
-ghost use Rattle.std.specs.Prelude.{◌≡◌, ◌+◌, ◌-◌, ◌*◌, ◌%◌, ◌<◌, ◌≤◌, ◌↔◌, ◌^◌, [], ◌∷◌, length, map, min, max, IfOk, OnOk, OnErr, IfErr, IsErr, IsSome, IfSome, OnSome, None, Some, position};
+ghost use Rattle.std.specs.Prelude.{◌≡◌, ◌+◌, ◌-◌, ◌*◌, ◌%◌, ◌<◌, ◌≤◌, ◌↔◌, ◌^◌, [], ◌∷◌, length, map, min, max, IfOk, OnOk, OnErr, IfErr, IsErr, IsOk, IsSome, IfSome, OnSome, None, Some, position};
 ghost use Rattle.std.specs.Vec.{vec_len, vec_capacity};
 
 use crate::editing::{
-    cut_end, free_end, free_piece_at, leave_piece, merge, release_pieces, reserve_below,
-    reserve_end, reserve_found, retire_pieces, settle_piece,
+    cut_end, free_at, free_end, leave_piece, merge, release_pieces, reserve_below, reserve_end,
+    reserve_found, retire_pieces, settle_piece,
 };
-use crate::finding::{room_index, roomy_index_from};
+use crate::finding::{free_index, reserved_index, room_index, roomy_index};
 use crate::making::list_pieces;
 use crate::piece::{Piece, Totals, align};
-use crate::totals::{
-    largest_offer, roomy_bytes, roomy_count, roomy_first, roomy_largest, used_bytes,
-};
+use crate::totals::{add_up, largest_offer, roomy_first};
 use cckd_base::{Extent, Full, Memory, Owner};
 use std::alloc::Global;
 use std::marker::Model;
@@ -25,6 +23,10 @@ pub struct Space {
     limit: u32,
     // How many pieces there may be.
     slots: usize,
+    // So many first pieces are none of them Free.
+    solid: usize,
+    // No piece offers more bytes.
+    most: u64,
 }
 
 impl Model for Space {
@@ -37,12 +39,12 @@ impl Model for Space {
 
     ghost view = { λ s. record { pieces = s.pieces.items; size = s.size; limit = s.limit; spare = s.slots - length s.pieces.items } };
 
-    ghost invariant = { λ s. IsKept s.pieces.items s.size s.slots (vec_capacity s.pieces) };
+    ghost invariant = { λ s. IsKept s.pieces.items s.size s.slots (vec_capacity s.pieces) s.solid s.most };
 }
 
 impl Space {
-    ghost use Rattle.cckd_space.specs.Pieces.{first, replaced, is_used_at, is_reserved_at, settled, left, retired, released, merged, freed, has_room, appended, end_place, has_room_below, reserved_in, cut, trimmed, used_end, largest, AreUsed};
-    ghost use Rattle.cckd_space.specs.Plan.{IsSound, IsNeed, IsPlanOf, KeepsAllButSpare, Becomes, first_fit, first_fit_below, place_of, with_reserved, size_with, room, numbers, totals_of, free_from};
+    ghost use Rattle.cckd_space.specs.Pieces.{first, replaced, is_used_at, is_reserved_at, settled, left, retired, released, merged, freed, has_room, reserved_piece, appended, end_place, has_room_below, reserved_in, cut, trimmed, used_end, largest, AreUsed};
+    ghost use Rattle.cckd_space.specs.Plan.{IsSound, CoversBytes, IsNeed, IsPlanOf, KeepsAllButSpare, Becomes, first_fit, first_fit_below, place_of, with_reserved, size_with, room, numbers, totals_of, free_from};
 
     /// The space of a file of `size` bytes, of which these are used, and which may grow to `limit`
     /// bytes. So many pieces may be added without taking memory.
@@ -63,6 +65,8 @@ impl Space {
             size,
             limit,
             slots,
+            solid: 0,
+            most: size as u64,
         })
     }
 
@@ -70,6 +74,8 @@ impl Space {
     pub fn grow(&mut self, more: u32) -> Result<(), Memory>
         ensures kept { KeepsAllButSpare self.old self.new }
         ensures enough { OnOk result (more ≤ self.new.spare) }
+        ensures ready { more ≤ self.old.spare → IsOk result }
+        ensures same { OnErr result (self.new ≡ self.old) }
     {
         let wanted = self.pieces.len() + more as usize;
         if self.slots < wanted {
@@ -90,11 +96,32 @@ impl Space {
         ensures full { IsErr result ↔ ((largest self.old.pieces < need) × (room self.old < need)) }
         ensures numbers { IfErr result (λ full. full ≡ numbers need self.old) }
         ensures same { OnErr result (self.new ≡ self.old) }
+
+        // What is reserved is found at its place, and takes two pieces at most.
+        ensures there { IfOk result (λ pos. first (is_reserved_at pos) self.new.pieces ≡ Some (reserved_piece pos need)) }
+        ensures spent { self.old.spare ≤ self.new.spare + 2 }
     {
-        match room_index(self.pieces.as_slice(), need) {
+        match self.find_room(need) {
             Some(at) => Ok(self.place_found(at, need)),
             None => self.place_at_end(need),
         }
+    }
+
+    /// The index of the first piece in which so many bytes fit.
+    fn find_room(&mut self, need: u32) -> Option<usize>
+        requires { 0 < need }
+        ensures found { result ≡ position (has_room need) self.old.pieces }
+        ensures same { self.new ≡ self.old }
+    {
+        if self.most < need as u64 {
+            return None;
+        }
+        self.solid = free_index(self.pieces.as_slice(), self.solid);
+        let found = room_index(self.pieces.as_slice(), self.solid, need);
+        if found.is_none() {
+            self.most = need as u64 - 1;
+        }
+        found
     }
 
     fn place_found(&mut self, at: usize, need: u32) -> u32
@@ -103,6 +130,8 @@ impl Space {
         requires spare { 2 ≤ self.old.spare }
         ensures placed { Some result ≡ first_fit need self.old.pieces }
         ensures reserved { Becomes self.old self.new (replaced (has_room need) (reserved_in need) self.old.pieces) self.old.size }
+        ensures there { first (is_reserved_at result) self.new.pieces ≡ Some (reserved_piece result need) }
+        ensures spent { self.old.spare ≤ self.new.spare + 2 }
     {
         reserve_found(&mut self.pieces, at, need)
     }
@@ -117,6 +146,8 @@ impl Space {
         ensures full { IsErr result ↔ (room self.old < need) }
         ensures numbers { IfErr result (λ full. full ≡ numbers need self.old) }
         ensures same { OnErr result (self.new ≡ self.old) }
+        ensures there { IfOk result (λ pos. first (is_reserved_at pos) self.new.pieces ≡ Some (reserved_piece pos need)) }
+        ensures spent { self.old.spare ≤ self.new.spare + 2 }
     {
         let end = free_end(self.pieces.as_slice(), self.size);
         let place = align(end);
@@ -140,14 +171,21 @@ impl Space {
         requires spare { 2 ≤ self.old.spare }
         ensures placed { result ≡ first_fit_below need before self.old.pieces }
         ensures reserved { Becomes self.old self.new (replaced (has_room_below need before) (reserved_in need) self.old.pieces) self.old.size }
+        ensures there { IfSome result (λ pos. first (is_reserved_at pos) self.new.pieces ≡ Some (reserved_piece pos need)) }
+        ensures spent { self.old.spare ≤ self.new.spare + 2 }
     {
-        reserve_below(&mut self.pieces, need, before)
+        if self.most < need as u64 {
+            return None;
+        }
+        self.solid = free_index(self.pieces.as_slice(), self.solid);
+        reserve_below(&mut self.pieces, self.solid, need, before)
     }
 
     /// The pieces, in order of position.
     pub fn pieces(&self) -> &[Piece]
         ensures listed { result.now ≡ self.now.pieces }
         ensures sound { IsSound self.now }
+        ensures covers { CoversBytes self.now }
     {
         self.pieces.as_slice()
     }
@@ -157,7 +195,9 @@ impl Space {
     pub fn settle(&mut self, pos: u32, len: u32, owner: Owner)
         requires reserved { IfSome (first (is_reserved_at pos) self.old.pieces) (λ p. (1 ≤ len) × (len ≤ p.size)) }
         requires there { IsSome (first (is_reserved_at pos) self.old.pieces) }
-        ensures { Becomes self.old self.new (replaced (is_reserved_at pos) (λ p. settled len owner p ∷ []) self.old.pieces) self.old.size }
+        ensures becomes { Becomes self.old self.new (replaced (is_reserved_at pos) (λ p. settled len owner p ∷ []) self.old.pieces) self.old.size }
+        ensures there { IfSome (first (is_reserved_at pos) self.old.pieces) (λ p. first (is_used_at pos) self.new.pieces ≡ Some (settled len owner p)) }
+        ensures spent { self.new.spare ≡ self.old.spare }
     {
         settle_piece(&mut self.pieces, pos, len, owner);
     }
@@ -165,14 +205,16 @@ impl Space {
     /// Turns the Used piece at `pos` into a Leaving one.
     pub fn leave(&mut self, pos: u32)
         requires there { IsSome (first (is_used_at pos) self.old.pieces) }
-        ensures { Becomes self.old self.new (replaced (is_used_at pos) (λ p. left p ∷ []) self.old.pieces) self.old.size }
+        ensures becomes { Becomes self.old self.new (replaced (is_used_at pos) (λ p. left p ∷ []) self.old.pieces) self.old.size }
+        ensures spent { self.new.spare ≡ self.old.spare }
     {
         leave_piece(&mut self.pieces, pos);
     }
 
     /// Turns every Leaving piece into a Pending one.
     pub fn retire_all(&mut self)
-        ensures { Becomes self.old self.new (map retired self.old.pieces) self.old.size }
+        ensures becomes { Becomes self.old self.new (map retired self.old.pieces) self.old.size }
+        ensures spent { self.new.spare ≡ self.old.spare }
     {
         retire_pieces(&mut self.pieces);
     }
@@ -180,24 +222,31 @@ impl Space {
     /// Frees the Reserved piece at `pos`.
     pub fn give_back(&mut self, pos: u32)
         requires there { IsSome (first (is_reserved_at pos) self.old.pieces) }
-        ensures { Becomes self.old self.new (merged (replaced (is_reserved_at pos) (λ p. freed p ∷ []) self.old.pieces)) self.old.size }
+        ensures becomes { Becomes self.old self.new (merged (replaced (is_reserved_at pos) (λ p. freed p ∷ []) self.old.pieces)) self.old.size }
+        ensures spent { self.old.spare ≤ self.new.spare }
     {
-        free_piece_at(&mut self.pieces, pos);
-        merge(&mut self.pieces);
+        let at = reserved_index(self.pieces.as_slice(), pos);
+        let offered = free_at(&mut self.pieces, at);
+        self.solid = self.solid.min(at);
+        self.most = self.most.max(offered);
     }
 
     /// Frees every Pending piece.
     pub fn release_all(&mut self)
-        ensures { Becomes self.old self.new (merged (map released self.old.pieces)) self.old.size }
+        ensures becomes { Becomes self.old self.new (merged (map released self.old.pieces)) self.old.size }
+        ensures spent { self.old.spare ≤ self.new.spare }
     {
         release_pieces(&mut self.pieces);
         merge(&mut self.pieces);
+        self.solid = 0;
+        self.most = self.size as u64;
     }
 
     /// Drops a Free piece at the end, and answers the size of the file then.
     pub fn trim(&mut self) -> u32
         ensures size { result ≡ used_end self.old.pieces }
         ensures dropped { Becomes self.old self.new (trimmed self.old.pieces) (used_end self.old.pieces) }
+        ensures spent { self.old.spare ≤ self.new.spare }
     {
         let end = free_end(self.pieces.as_slice(), self.size);
         cut_end(&mut self.pieces, 0, self.size);
@@ -207,7 +256,8 @@ impl Space {
 
     /// Drops the free bytes at the end that stand at or past `len`.
     pub fn cut_back(&mut self, len: u32)
-        ensures { Becomes self.old self.new (cut len self.old.size self.old.pieces) (max (used_end self.old.pieces) (min len self.old.size)) }
+        ensures becomes { Becomes self.old self.new (cut len self.old.size self.old.pieces) (max (used_end self.old.pieces) (min len self.old.size)) }
+        ensures spent { self.old.spare ≤ self.new.spare }
     {
         let end = free_end(self.pieces.as_slice(), self.size);
         cut_end(&mut self.pieces, len, self.size);
@@ -216,20 +266,20 @@ impl Space {
 
     /// The totals of the file.
     pub fn totals(&self) -> Totals
-        ensures { result ≡ totals_of self.now }
+        ensures totals { result ≡ totals_of self.now }
+        ensures whole { result.used + result.free_total + result.free_imbed ≡ result.size }
     {
         let size = self.size;
         let pieces = self.pieces.as_slice();
-        let used = used_bytes(pieces);
-        let total = roomy_bytes(pieces);
+        let sums = add_up(pieces);
         Totals {
             size,
-            used,
-            free: roomy_first(pieces),
-            free_total: total,
-            free_largest: roomy_largest(pieces),
-            free_number: roomy_count(pieces),
-            free_imbed: size - used - total,
+            used: sums.used,
+            free: roomy_first(pieces, self.solid),
+            free_total: sums.total,
+            free_largest: sums.largest,
+            free_number: sums.number,
+            free_imbed: size - sums.used - sums.total,
         }
     }
 
@@ -238,7 +288,7 @@ impl Space {
     pub fn next_free(&self, from: u32) -> Option<(u32, u32)>
         ensures { result ≡ free_from from self.now.pieces }
     {
-        let Some(at) = roomy_index_from(self.pieces.as_slice(), from) else {
+        let Some(at) = roomy_index(self.pieces.as_slice(), self.solid, from) else {
             return None;
         };
         let piece = self.pieces[at];

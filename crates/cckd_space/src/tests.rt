@@ -1,7 +1,8 @@
-//! Worked numbers of small images.
+//! Worked numbers of small images, and calls in any order beside a plain program.
 ghost use Rattle.std.specs.Prelude.{◌≤◌};
 ghost use Rattle.cckd_space.specs.Plan.{IsNeed};
 
+use crate::beside::{file, follow};
 use crate::{Extent, Full, Owner, Space};
 use std::alloc::Global;
 use std::test::Fail;
@@ -49,5 +50,44 @@ fn the_last_bytes_below_the_greatest_limit_are_placed(rt: HostRuntime) -> Result
         room: 0,
     };
     assert_eq!(rt; placed(&mut space, 8)?, Err(full));
+    Ok(())
+}
+
+#[test]
+fn a_gap_and_the_end_offer_what_each_has(rt: HostRuntime) -> Result<(), Fail> {
+    let used = [
+        Extent {
+            pos: 0,
+            len: 1056,
+            size: 1056,
+            owner: Owner::Header,
+        },
+        Extent {
+            pos: 2056,
+            len: 1000,
+            size: 1000,
+            owner: Owner::Track(0),
+        },
+    ];
+    let mut space = Space::from_used(rt.alloc(), &used, 3056, 5096, 0)?;
+    let full = Full {
+        need: 2048,
+        largest: 1000,
+        room: 2040,
+    };
+    assert_eq!(rt; placed(&mut space, 2048)?, Err(full));
+    assert_eq!(rt; placed(&mut space, 1000)?, Ok(1056));
+    assert_eq!(rt; placed(&mut space, 2040)?, Ok(3056));
+    Ok(())
+}
+
+#[test]
+fn calls_in_any_order_answer_as_the_plain_program_does(rt: HostRuntime) -> Result<(), Fail> {
+    for number in 0..4 {
+        for seed in 0..80 {
+            let mut pair = file(rt.alloc(), number, seed)?;
+            follow(&rt, rt.alloc(), &mut pair, 30)?;
+        }
+    }
     Ok(())
 }

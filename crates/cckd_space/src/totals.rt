@@ -1,7 +1,8 @@
 //! The numbers of a list of pieces.
-ghost use Rattle.std.specs.Prelude.{◌≡◌, ◌+◌, ◌<◌, ◌^◌};
+ghost use Rattle.std.specs.Prelude.{◌≡◌, ◌+◌, ◌<◌, ◌≤◌, ◌^◌, length};
 ghost use Rattle.std.specs.Option.{option_map, unwrap_or};
 ghost use Rattle.cckd_space.specs.Pieces.{largest, greatest, offer, summed, counted, used_len, roomy_len, is_roomy, first};
+ghost use Rattle.cckd_space.specs.Inside.{IsInOrder, IsShut};
 
 use crate::finding::roomy_index;
 use crate::piece::Piece;
@@ -17,60 +18,53 @@ pub(crate) fn largest_offer(pieces: &[Piece]) -> u64
     best
 }
 
-/// The bytes in use.
-pub(crate) fn used_bytes(pieces: &[Piece]) -> u32
-    requires { summed used_len pieces.now < 2 ^ 32 }
-    ensures { result ≡ summed used_len pieces.now }
+/// What the pieces of a file add up to: the bytes in use; and of the free pieces of at least 8 bytes
+/// the bytes, the greatest size, and how many there are.
+#[derive(Clone, Copy)]
+pub(crate) struct Sums {
+    pub(crate) used: u32,
+    pub(crate) total: u32,
+    pub(crate) largest: u32,
+    pub(crate) number: u32,
+}
+
+pub(crate) fn add_up(pieces: &[Piece]) -> Sums
+    requires used { summed used_len pieces.now < 2 ^ 32 }
+    requires total { summed roomy_len pieces.now < 2 ^ 32 }
+    requires number { counted is_roomy pieces.now < 2 ^ 32 }
+    ensures used { result.used ≡ summed used_len pieces.now }
+    ensures total { result.total ≡ summed roomy_len pieces.now }
+    ensures largest { result.largest ≡ greatest roomy_len pieces.now }
+    ensures number { result.number ≡ counted is_roomy pieces.now }
 {
+    let mut used: u32 = 0;
     let mut total: u32 = 0;
+    let mut largest = 0;
+    let mut number: u32 = 0;
     for piece in pieces {
-        total += piece.used_len();
-    }
-    total
-}
-
-/// The bytes of free pieces of at least 8 bytes.
-pub(crate) fn roomy_bytes(pieces: &[Piece]) -> u32
-    requires { summed roomy_len pieces.now < 2 ^ 32 }
-    ensures { result ≡ summed roomy_len pieces.now }
-{
-    let mut total: u32 = 0;
-    for piece in pieces {
-        total += piece.roomy_len();
-    }
-    total
-}
-
-/// The greatest size of a free piece of at least 8 bytes.
-pub(crate) fn roomy_largest(pieces: &[Piece]) -> u32
-    ensures { result ≡ greatest roomy_len pieces.now }
-{
-    let mut best = 0;
-    for piece in pieces {
-        best = piece.roomy_len().max(best);
-    }
-    best
-}
-
-/// How many free pieces of at least 8 bytes there are.
-pub(crate) fn roomy_count(pieces: &[Piece]) -> u32
-    requires { counted is_roomy pieces.now < 2 ^ 32 }
-    ensures { result ≡ counted is_roomy pieces.now }
-{
-    let mut count: u32 = 0;
-    for piece in pieces {
+        used += piece.used_len();
         if piece.is_roomy() {
-            count += 1;
+            total += piece.size;
+            largest = piece.size.max(largest);
+            number += 1;
         }
     }
-    count
+    Sums {
+        used,
+        total,
+        largest,
+        number,
+    }
 }
 
-/// Where the first free piece of at least 8 bytes stands, or 0.
-pub(crate) fn roomy_first(pieces: &[Piece]) -> u32
+/// Where the first free piece of at least 8 bytes stands, or 0. No piece before `solid` is Free.
+pub(crate) fn roomy_first(pieces: &[Piece], solid: usize) -> u32
+    requires within { solid ≤ length pieces.now }
+    requires shut { IsShut solid pieces.now }
+    requires order { IsInOrder pieces.now }
     ensures { result ≡ unwrap_or (option_map (λ p. p.pos) (first is_roomy pieces.now)) 0 }
 {
-    let Some(at) = roomy_index(pieces) else {
+    let Some(at) = roomy_index(pieces, solid, 0) else {
         return 0;
     };
     pieces[at].pos

@@ -2,11 +2,18 @@ use Rattle.std.proofs.Common.{List, sym, subst, arith}
 use Rattle.cckd_space.specs.declared.piece.Piece.{Piece}
 use Rattle.cckd_space.specs.Pieces.{IsLaid}
 use Rattle.cckd_space.proofs.LaidLemmas.{laid_pieces_of}
+use Rattle.cckd_space.proofs.NumberLemmas.{largest_fits}
 use Rattle.cckd_space.proofs.space.Space.from_used.Goals as goal
 
 pub invariant_of-result : goal.invariant_of-result
-invariant_of-result c = record {
-  laid = subst (λ (l : List Piece). IsLaid 0 l c.args.size) (sym c.in_ok-pieces.ensures.items) (laid_pieces_of 0 c.args.used.now c.args.size c.requires.used);
-  fewer = omega arith;
-  room = omega (arith, c.in_ok-pieces.ensures.capacity);
-}
+invariant_of-result c =
+    let laid : IsLaid 0 c.in_ok-pieces.pieces.items c.args.size =
+    subst (λ (l : List Piece). IsLaid 0 l c.args.size) (sym c.in_ok-pieces.ensures.items) (laid_pieces_of 0 c.args.used.now c.args.size c.requires.used) in
+    record {
+      laid = laid;
+      fewer = omega arith;
+      room = omega (arith, c.in_ok-pieces.ensures.capacity);
+      within = omega arith;
+      shut = tt;
+      offers = largest_fits 0 c.in_ok-pieces.pieces.items c.args.size laid;
+    }

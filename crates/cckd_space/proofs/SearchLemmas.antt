@@ -1,0 +1,223 @@
+-- A search in a part of the list, outside which nothing passes.
+use Rattle.std.proofs.Common.{◌≡◌, ℕ, max, zero, suc, ◌+◌, ◌-◌, ◌<◌, ◌≤◌, nat_le, Bool, true, false, cond, ◌&&◌, ◌==◌, List, [], ◌∷◌, length, take, drop, get_or, Option, Some, None, refl, sym, ◌∙◌, ap, subst, arith, add-one, position, nat_lt, IsSome, inl, inr}
+use Rattle.std.specs.List.{position_or_len}
+use Rattle.std.proofs.lemmas.Bool.{lt-ltb, le-ltb, cases_lt, ltb-false, and_parts, leb-true, le-leb, eqb-true, false_from_ne_true}
+use Rattle.std.proofs.lemmas.List.{get_or-take, get_or-drop, length-take, length-drop}
+use Rattle.cckd_base.specs.declared.space.Owner.TheVariants.{Nobody}
+use Rattle.cckd_space.specs.declared.piece.Kind.TheVariants.{Used}
+use Rattle.cckd_space.specs.declared.piece.Piece.{Piece}
+use Rattle.cckd_space.specs.Pieces.{is_free, is_roomy, is_roomy_from, is_reserved_at, is_used_at, used_kind, reserved_kind, has_room, has_room_below, aligned_up, piece_end, first, IsLaid}
+use Rattle.cckd_space.specs.Inside.{IsShut, IsInOrder, StartsAt}
+use Rattle.cckd_space.proofs.FirstLemmas.{IsFirstAt, is_first, none_passes}
+
+pub shut_at : (n : ℕ) (ps : List Piece) (k : ℕ) (d : Piece) → IsShut n ps → k < n → is_free (get_or ps k d) ≡ false
+shut_at zero ps k d h l = absurd (omega arith)
+shut_at (suc n) [] k d h l = absurd h
+shut_at (suc n) (p ∷ ps) zero d h l = h.0
+shut_at (suc n) (p ∷ ps) (suc k) d h l = shut_at n ps k d h.1 (omega arith)
+
+pub shut_within : (n : ℕ) (ps : List Piece) → IsShut n ps → n ≤ length ps
+shut_within zero ps h = omega arith
+shut_within (suc n) [] h = absurd h
+shut_within (suc n) (p ∷ ps) h = let r = shut_within n ps h.1 in omega (arith, r)
+
+pub shut_more : (n : ℕ) (ps : List Piece) (d : Piece) → IsShut n ps → n < length ps → is_free (get_or ps n d) ≡ false → IsShut (suc n) ps
+shut_more n [] d h l e = absurd (omega arith)
+shut_more zero (p ∷ ps) d h l e = (e, tt)
+shut_more (suc n) (p ∷ ps) d h l e = (h.0, shut_more n ps d h.1 (omega arith) e)
+
+pub shut_next : (n : ℕ) (ps : List Piece) (d : Piece) → IsShut n ps → n < length ps → is_free (get_or ps n d) ≡ false → IsShut (n + 1) ps
+shut_next n ps d h l e = subst (λ (m : ℕ). IsShut m ps) (sym (add-one n)) (shut_more n ps d h l e)
+
+module _ (test : Piece → Bool) where
+  passed_len : (xs : List Piece) (i : ℕ) (d : Piece) → IsFirstAt test xs i d → position_or_len test xs ≡ i
+  passed_len [] i d h = absurd (omega (arith, h.within))
+  passed_len (x ∷ xs) zero d h = rw h.here refl
+  passed_len (x ∷ xs) (suc i) d h =
+      let r = passed_len xs i d (record { within = omega (arith, h.within); here = h.here; before = λ k l. h.before (suc k) (omega arith) }) in
+      rw (h.before 0 (omega arith)) (omega (arith, r))
+
+  pub at_position : (xs : List Piece) (i : ℕ) (d : Piece) → IsFirstAt test xs i d → position test xs ≡ Some i
+  at_position xs i d h = rw (passed_len xs i d h, lt-ltb i (length xs) h.within) refl
+
+  failed_len : (xs : List Piece) (d : Piece) → ((k : ℕ) → k < length xs → test (get_or xs k d) ≡ false) → position_or_len test xs ≡ length xs
+  failed_len [] d h = refl
+  failed_len (x ∷ xs) d h =
+      let r = failed_len xs d (λ k l. h (suc k) (omega arith)) in
+      rw (h 0 (omega arith)) (omega (arith, r))
+
+  pub no_position : (xs : List Piece) (d : Piece) → ((k : ℕ) → k < length xs → test (get_or xs k d) ≡ false) → position test xs ≡ None
+  no_position xs d h = rw (failed_len xs d h, le-ltb (length xs) (length xs) (omega arith)) refl
+
+  none_len : (xs : List Piece) → position test xs ≡ None → length xs ≤ position_or_len test xs
+  none_len xs e = far (nat_lt (position_or_len test xs) (length xs)) refl
+    where
+      far : (b : Bool) → nat_lt (position_or_len test xs) (length xs) ≡ b → length xs ≤ position_or_len test xs
+      far true f = absurd (let g = rw f at e in cc)
+      far false f = ltb-false (position_or_len test xs) (length xs) f
+
+  fails_at : (xs : List Piece) (k : ℕ) (d : Piece) → length xs ≤ position_or_len test xs → k < length xs → test (get_or xs k d) ≡ false
+  fails_at [] k d h l = absurd (omega arith)
+  fails_at (x ∷ xs) k d h l = by (test x) refl (λ j. fails_at xs j d) k l
+    where
+      by : (b : Bool) → test x ≡ b → ((j : ℕ) → length xs ≤ position_or_len test xs → j < length xs → test (get_or xs j d) ≡ false) → (j : ℕ) → j < length (x ∷ xs) → test (get_or (x ∷ xs) j d) ≡ false
+      by true e more j m = absurd (let s : suc (length xs) ≤ 0 = rw e at h in omega arith)
+      by false e more zero m = e
+      by false e more (suc j) m = more j (let s : suc (length xs) ≤ 1 + position_or_len test xs = rw e at h in omega arith) (omega arith)
+
+  pub none_at : (xs : List Piece) (k : ℕ) (d : Piece) → position test xs ≡ None → k < length xs → test (get_or xs k d) ≡ false
+  none_at xs k d e l = fails_at xs k d (none_len xs e) l
+
+  -- a part of the list, outside which no piece passes
+  pub record IsWhere (xs : List Piece) (from len : ℕ) : Type 0 where
+    pub within : from + len ≤ length xs
+    pub before : (k : ℕ) (d : Piece) → k < from → test (get_or xs k d) ≡ false
+    pub behind : (k : ℕ) (d : Piece) → from + len ≤ k → k < length xs → test (get_or xs k d) ≡ false
+
+  part_at : (xs : List Piece) (from len k : ℕ) (d : Piece) → k < len → get_or (take len (drop from xs)) k d ≡ get_or xs (from + k) d
+  part_at xs from len k d l = get_or-take len (drop from xs) k d l ∙ get_or-drop from xs k d
+
+  part_len : (xs : List Piece) (from len : ℕ) → from + len ≤ length xs → length (take len (drop from xs)) ≡ len
+  part_len xs from len h = omega (arith, length-take len (drop from xs), length-drop from xs)
+
+  pub part_some : (xs : List Piece) (from len i : ℕ) → IsWhere xs from len → position test (take len (drop from xs)) ≡ Some i → position test xs ≡ Some (from + i)
+  part_some xs from len i w e =
+      let d : Piece = record { pos = 0; len = 0; size = 0; kind = Used; owner = Nobody } in
+      let f = is_first test (take len (drop from xs)) i d e in
+      let l = part_len xs from len w.within in
+      at_position xs (from + i) d (record {
+        within = omega (arith, f.within, l, w.within);
+        here = ap test (sym (part_at xs from len i d (omega (arith, f.within, l)))) ∙ f.here;
+        before = λ k m. elim (cases_lt k from) [
+          | inl lt ↦ w.before k d lt
+          | inr ge ↦
+              let s : from + (k - from) ≡ k = omega arith in
+              ap (λ (n : ℕ). test (get_or xs n d)) (sym s) ∙ (ap test (sym (part_at xs from len (k - from) d (omega (arith, f.within, l)))) ∙ f.before (k - from) (omega arith))
+        ];
+      })
+
+  pub part_none : (xs : List Piece) (from len : ℕ) → IsWhere xs from len → position test (take len (drop from xs)) ≡ None → position test xs ≡ None
+  part_none xs from len w e =
+      let d : Piece = record { pos = 0; len = 0; size = 0; kind = Used; owner = Nobody } in
+      let l = part_len xs from len w.within in
+      no_position xs d (λ k m. elim (cases_lt k from) [
+        | inl lt ↦ w.before k d lt
+        | inr ge ↦ elim (cases_lt k (from + len)) [
+          | inl under ↦
+              let s : from + (k - from) ≡ k = omega arith in
+              ap (λ (n : ℕ). test (get_or xs n d)) (sym s) ∙ (ap test (sym (part_at xs from len (k - from) d (omega arith))) ∙ none_at (take len (drop from xs)) (k - from) d e (omega (arith, l)))
+          | inr over ↦ w.behind k d over m
+        ]
+      ])
+
+free_first : (a b : Bool) → a ≡ false → (a && b) ≡ false
+free_first a b e = rw e refl
+
+-- only Free pieces pass, so none before the first of them does
+pub where_shut : (test : Piece → Bool) → ((p : Piece) → is_free p ≡ false → test p ≡ false) → (xs : List Piece) (solid : ℕ) → IsShut solid xs → IsWhere test xs solid (length xs - solid)
+where_shut test only xs solid h =
+    let w = shut_within solid xs h in
+    record {
+      within = omega (arith, w);
+      before = λ k d l. only (get_or xs k d) (shut_at solid xs k d h l);
+      behind = λ k d o l. absurd (omega (arith, w));
+    }
+
+pub room_shut : (need : ℕ) (p : Piece) → is_free p ≡ false → has_room need p ≡ false
+room_shut need p e = free_first (is_free p) (nat_le (aligned_up p.pos + need) (piece_end p)) e
+
+pub roomy_shut : (p : Piece) → is_free p ≡ false → is_roomy p ≡ false
+roomy_shut p e = free_first (is_free p) (nat_le 8 p.size) e
+
+pub room_below_shut : (need before : ℕ) (p : Piece) → is_free p ≡ false → has_room_below need before p ≡ false
+room_below_shut need before p e = free_first (has_room need p) (nat_le (aligned_up p.pos + need) before) (room_shut need p e)
+
+pub roomy_from_shut : (from : ℕ) (p : Piece) → is_free p ≡ false → is_roomy_from from p ≡ false
+roomy_from_shut from p e = free_first (is_roomy p) (nat_le from p.pos) (roomy_shut p e)
+
+-- a space that ends at or below a place is in a piece that begins before it
+too_far : (need before : ℕ) (p : Piece) → 0 < need → before ≤ p.pos → has_room_below need before p ≡ false
+too_far need before p some h = false_from_ne_true (has_room_below need before p) (λ e.
+    let l = leb-true (aligned_up p.pos + need) before (and_parts (has_room need p) (nat_le (aligned_up p.pos + need) before) e).1 in
+    omega (arith, l))
+
+pub where_below : (need before : ℕ) (xs : List Piece) (solid at end : ℕ) → 0 < need → IsShut solid xs → solid ≤ length xs → StartsAt before xs at → end ≡ max at solid
+    → IsWhere (has_room_below need before) xs solid (end - solid)
+where_below need before xs solid at end some h w s e = record {
+  within = omega (arith, s.within);
+  before = λ k d m. room_below_shut need before (get_or xs k d) (shut_at solid xs k d h m);
+  behind = λ k d o m. too_far need before (get_or xs k d) some (s.behind k d (omega arith) m);
+}
+
+-- a piece that starts before a place isn't one from it on
+too_near : (from : ℕ) (p : Piece) → p.pos < from → is_roomy_from from p ≡ false
+too_near from p h = false_from_ne_true (is_roomy_from from p) (λ e.
+    let l = leb-true from p.pos (and_parts (is_roomy p) (nat_le from p.pos) e).1 in
+    omega (arith, l))
+
+pub where_from : (from : ℕ) (xs : List Piece) (solid at start : ℕ) → IsShut solid xs → solid ≤ length xs → StartsAt from xs at → start ≡ max at solid
+    → IsWhere (is_roomy_from from) xs start (length xs - start)
+where_from from xs solid at start h w s e = record {
+  within = omega (arith, s.within);
+  before = λ k d m. elim (cases_lt k at) [
+    | inl lt ↦ too_near from (get_or xs k d) (s.before k d lt)
+    | inr ge ↦ roomy_from_shut from (get_or xs k d) (shut_at solid xs k d h (omega arith))
+  ];
+  behind = λ k d u m. absurd (omega (arith, s.within));
+}
+
+-- the pieces of a file are in order
+laid_from : (at : ℕ) (ps : List Piece) (end : ℕ) (j : ℕ) (d : Piece) → IsLaid at ps end → j < length ps → at ≤ (get_or ps j d).pos
+laid_from at [] end j d h l = absurd (omega arith)
+laid_from at (p ∷ ps) end zero d h l = omega (arith, h.0.place)
+laid_from at (p ∷ ps) end (suc j) d h l = let r = laid_from (at + p.size) ps end j d h.2 (omega arith) in omega (arith, r)
+
+laid_rises : (at : ℕ) (ps : List Piece) (end : ℕ) (i j : ℕ) (d : Piece) → IsLaid at ps end → i < j → j < length ps → (get_or ps i d).pos < (get_or ps j d).pos
+laid_rises at [] end i j d h l m = absurd (omega arith)
+laid_rises at (p ∷ ps) end i zero d h l m = absurd (omega arith)
+laid_rises at (p ∷ ps) end zero (suc j) d h l m =
+    let r = laid_from (at + p.size) ps end j d h.2 (omega arith) in
+    omega (arith, r, h.0.place, h.0.some)
+laid_rises at (p ∷ ps) end (suc i) (suc j) d h l m = laid_rises (at + p.size) ps end i j d h.2 (omega arith) (omega arith)
+
+pub laid_order : (ps : List Piece) (end : ℕ) → IsLaid 0 ps end → IsInOrder ps
+laid_order ps end h = record { each = λ i j d l m. laid_rises 0 ps end i j d h l m }
+
+-- the piece that passes a test which only one at this place can pass is the one that a search finds
+pub found_at : (test : Piece → Bool) (pos : ℕ) (xs : List Piece) (at : ℕ) (d : Piece) → ((p : Piece) → test p ≡ true → p.pos ≡ pos) → IsInOrder xs → StartsAt pos xs at → IsSome (first test xs) → IsFirstAt test xs at d
+found_at test pos xs at d only order s there = by (position test xs) refl
+  where
+    by : (o : Option ℕ) → position test xs ≡ o → IsFirstAt test xs at d
+    by None e = absurd (let n : first test xs ≡ None = none_passes test xs e in let g : false ≡ true = rw n at there in cc)
+    by (Some i) e =
+        let f = is_first test xs i d e in
+        let here = only (get_or xs i d) f.here in
+        let same : i ≡ at = elim (cases_lt i at) [
+          | inl lt ↦ let a = s.before i d lt in absurd (omega (arith, a, here))
+          | inr ge ↦ elim (cases_lt at i) [
+            | inl lt ↦
+                let a = order.each at i d lt f.within in
+                let b = s.behind at d (omega arith) (omega (arith, f.within)) in
+                absurd (omega (arith, a, b, here))
+            | inr le ↦ let r : i ≡ at = omega arith in r
+          ]
+        ] in
+        subst (λ (n : ℕ). IsFirstAt test xs n d) same f
+
+pub reserved_there : (pos : ℕ) (p : Piece) → is_reserved_at pos p ≡ true → p.pos ≡ pos
+reserved_there pos p e = eqb-true p.pos pos (and_parts (reserved_kind p.kind) (p.pos == pos) e).1
+
+pub used_there : (pos : ℕ) (p : Piece) → is_used_at pos p ≡ true → p.pos ≡ pos
+used_there pos p e = eqb-true p.pos pos (and_parts (used_kind p.kind) (p.pos == pos) e).1
+
+first_same : (f g : Piece → Bool) → ((p : Piece) → f p ≡ g p) → (ps : List Piece) → first f ps ≡ first g ps
+first_same f g e [] = refl
+first_same f g e (p ∷ ps) = rw (e p) (ap (cond (g p) (Some p)) (first_same f g e ps))
+
+-- one that starts at or after 0 starts anywhere
+pub first_roomy : (ps : List Piece) → first (is_roomy_from 0) ps ≡ first is_roomy ps
+first_roomy ps = first_same (is_roomy_from 0) is_roomy (λ p. and_right (is_roomy p) (nat_le 0 p.pos) (le-leb 0 p.pos (omega arith))) ps
+  where
+    and_right : (a b : Bool) → b ≡ true → (a && b) ≡ a
+    and_right true b e = e
+    and_right false b e = refl

@@ -1,0 +1,15 @@
+use Rattle.std.proofs.Common.{subst, arith}
+use Rattle.cckd_space.specs.Plan.{CoversBytes}
+use Rattle.cckd_space.proofs.CallerLemmas.{one_within, none_beyond, kinds_counted, no_more}
+use Rattle.cckd_space.proofs.space.Space.pieces.Goals as goal
+
+pub returns-clause-covers : goal.returns-clause-covers
+returns-clause-covers c =
+    subst CoversBytes c.self.view_is (record {
+      within = λ at h. one_within 0 c.self.inside.pieces.items c.self.inside.size at c.self.invariant.laid (omega arith) h;
+      beyond = λ at h. none_beyond 0 c.self.inside.pieces.items c.self.inside.size at c.self.invariant.laid h;
+      apart = λ at.
+          let k = kinds_counted c.self.inside.pieces.items at in
+          let n = no_more c.self.inside.pieces.items c.self.inside.size at c.self.invariant.laid in
+          omega (arith, k, n);
+    })
