@@ -1,6 +1,6 @@
 -- The two headers of a CCKD image, 512 bytes each: what they say, and the first fault of a file that has none.
-use Rattle.std.specs.Prelude.{ℕ, ◌/◌, ◌%◌, ◌==◌, nat_lt, Bool, ◌||◌, not, if◌then◌else◌, List, [], ◌∷◌, ◌++◌, take, replicate, slice_index, codes, Option, Some, None}
-use Rattle.std.specs.List.{list_any}
+use Rattle.std.specs.Prelude.{ℕ, ◌/◌, ◌%◌, ◌==◌, nat_lt, nat_le, Bool, ◌||◌, ◌&&◌, not, if◌then◌else◌, List, [], ◌∷◌, ◌++◌, length, take, replicate, slice_index, codes, Option, Some, None}
+use Rattle.std.specs.List.{list_any, list_all}
 use Rattle.std.specs.Int.{w32}
 use Rattle.std.specs.Str.{bytes_eq}
 use Rattle.cckd_base.specs.declared.order.Order.{Order}
@@ -25,6 +25,10 @@ shadow_identifier = codes "CKD_S370"
 -- the bytes of the two headers, with zeros past the end of a short file
 abbrev pub headers_of : List ℕ → List ℕ
 headers_of file = take 1024 (file ++ replicate 1024 0)
+
+-- whether a slot with this file is there: it isn't where the file is empty, or begins with 512 zeros
+abbrev pub is_present : List ℕ → Bool
+is_present file = not (length file == 0) && not (nat_le 512 (length file) && list_all (λ b. b == 0) (take 512 file))
 
 abbrev pub identifier : List ℕ → List ℕ
 identifier headers = take 8 headers

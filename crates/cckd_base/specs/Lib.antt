@@ -5,4 +5,5 @@ pub mod Entry
 pub mod Track
 pub mod Header
 pub mod Misfit
+pub mod Survey
 pub mod Answer

@@ -1,6 +1,7 @@
 //! The shared words of the workspace: geometries, tracks, table entries, faults and replies.
 #![tactic(auto)]
 
+mod call;
 mod device;
 mod entry;
 mod fault;
@@ -13,11 +14,12 @@ mod space;
 mod tests;
 mod unit;
 
+pub use call::Call;
 pub use device::geometry_of;
 pub use entry::L2Entry;
 pub use fault::{CountField, GeoField, HeaderFault, TrackFault};
 pub use geometry::{Addr, Geometry, Layout, Track};
-pub use misfit::Misfit;
+pub use misfit::{Misfit, ScanFault};
 pub use order::Order;
 pub use reply::{Refusal, Reply};
 pub use space::{Extent, Full, Owner};

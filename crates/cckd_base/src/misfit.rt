@@ -13,3 +13,12 @@ pub enum Misfit {
     /// A base has no file below it.
     ParentInBase { owner: Owner },
 }
+
+/// Why the survey of an image gives no spaces.
+#[derive(Clone, Copy, Debug, PartialEq, Eq)]
+pub enum ScanFault {
+    /// The first misfit in the order of the survey.
+    Misfit(Misfit),
+    ReadFault,
+    Memory,
+}

@@ -5,6 +5,7 @@ use crate::fault::TrackFault;
 pub enum Reply {
     /// The track's value: so many bytes, which stand in the caller's buffer.
     Track { len: u32 },
+    Closed,
     Refused(Refusal),
 }
 

@@ -1,21 +1,8 @@
-//! The plain program: it makes the stage over real files and standard streams, and runs the words.
+//! The plain program.
 #![tactic(auto)]
 
-mod words;
-
-use cckd_shelf::HostStage;
-use cckd_top::run_plain;
 use std::process::ExitCode;
 
-/// The status where memory for the words is wanted.
-const NO_MEMORY: u8 = 8;
-
 fn main(rt: HostRuntime) -> ExitCode {
-    let alloc = rt.alloc();
-    let Ok(words) = words::words_of(&rt, alloc) else {
-        let _ = println!(rt; "no memory");
-        return ExitCode::from(NO_MEMORY);
-    };
-    let (_stage, status) = run_plain(HostStage::new(rt, alloc), alloc, &words);
-    ExitCode::from(status.code)
+    cckd_host::run(rt)
 }

@@ -1,190 +1,122 @@
--- The cases of a header, taken together.
-use Rattle.std.proofs.Common.{◌≡◌, ⊎_elim, ℕ, ◌==◌, nat_lt, Bool, true, false, ◌||◌, not, cond, List, [], ◌∷◌, Option, Some, None, length, take, drop, replicate, ◌<◌, ◌≤◌, refl, sym, ◌∙◌, ap, subst}
+-- The headers of a base: what was read of them, and what their tests say.
+use Rattle.std.proofs.Common.{◌≡◌, ⊎_elim, ℕ, zero, suc, ◌-◌, ◌<◌, ◌≤◌, min, nat_lt, Bool, true, false, ◌||◌, not, List, [], ◌∷◌, ◌++◌, length, take, drop, replicate, Option, Some, None, Result, Ok, Err, refl, sym, ◌∙◌, ap, subst, arith, append-nil}
+use Rattle.std.specs.List.{list_any}
 use Rattle.std.specs.Str.{bytes_eq}
-use Rattle.std.proofs.lemmas.Bool.{false≢true, cond-true, cond-false, or_parts, or_cases, or_from, or_left, not-false, lt-ltb}
-use Rattle.std.proofs.lemmas.List.{take-append-le}
+use Rattle.std.proofs.lemmas.Bool.{false≢true, or_parts, or_cases, not-false, cases_lt}
+use Rattle.std.proofs.lemmas.List.{take-append-le, take-replicate, drop-replicate, length-replicate}
 use Rattle.std.proofs.lemmas.Slice.Eq.{bytes_eq-Decides}
+use Rattle.std.proofs.Math.ListN.{drop_of_length-le}
+use Rattle.std.proofs.Math.Seq.{take-append-add, take-length}
 use Rattle.cckd_base.specs.declared.geometry.Layout.{Layout}
+use Rattle.cckd_base.specs.declared.fault.HeaderFault.{HeaderFault}
 use Rattle.cckd_base.specs.declared.fault.HeaderFault.TheVariants as fault
-use Rattle.cckd_base.specs.declared.fault.GeoField.TheVariants.{Heads, Cylinders, Tracks, TrackSize, Sequence}
-use Rattle.cckd_base.specs.declared.fault.CountField.TheVariants.{LevelOne, LevelTwo, Length}
-use Rattle.std.specs.Int.{w32}
-use Rattle.cckd_base.specs.declared.order.Order.{Order}
-use Rattle.cckd_base.specs.declared.order.Order.TheVariants.{Little, Big}
-use Rattle.cckd_base.specs.Numbers.{number_at}
-use Rattle.cckd_base.specs.Geometry.{group_count, area_of, is_null_format, IsGeometry}
-use Rattle.cckd_base.specs.Header.{base_identifier, shadow_identifier, identifier, header_geometry, header_sequence, header_null_format, level_one_count, level_two_count, headers_of, first_case, header_fault, is_big, is_outside, layout_of}
-use Rattle.cckd_top.specs.declared.opening.Opening.{Opening}
-use Rattle.cckd_top.specs.declared.opening.Opening.TheVariants.{NotCckd, NotYet, Ready}
-use Rattle.cckd_top.specs.Opening.{opening_by, opening_of, is_other_file, is_foreign_geometry, are_foreign_counts, little_layout_of, IsServed}
+use Rattle.cckd_base.specs.Geometry.{area_of, IsLayout}
+use Rattle.cckd_base.specs.Header.{base_identifier, shadow_identifier, identifier, headers_of, first_case, header_cases, header_fault, layout_of}
+use Rattle.cckd_image.specs.declared.header.ImageHeader.{ImageHeader}
+use Rattle.cckd_image.specs.Image.{decoded, header_of, layout_by, IsHeader}
+use Rattle.cckd_top.specs.Opening.{base_fault, HasSoundHeaders}
 
--- whether the counts of the headers are wrong, in the image's order
-abbrev are_counts_wrong : List ℕ → ℕ → Bool
-are_counts_wrong headers len =
-    not (level_one_count headers == group_count (header_geometry headers)) || not (level_two_count headers == 256)
-    || is_outside (area_of (group_count (header_geometry headers))) 2147483640 len
+take_none : (n : ℕ) → take {A = ℕ} n [] ≡ []
+take_none zero = refl
+take_none (suc n) = refl
 
--- the same on the tests alone
-opening_cases : (none heads cylinders tracks size sequence words entries span format other : Bool) (id : List ℕ)
-    (v w x y z a b c d : ℕ) (l : Layout)
-    → opening_by (first_case (
-    (none, fault.NotCckd id) ∷ (heads, fault.BadGeometry Heads v) ∷ (cylinders, fault.BadGeometry Cylinders w)
-    ∷ (tracks, fault.BadGeometry Tracks x) ∷ (size, fault.BadGeometry TrackSize y)
-    ∷ (sequence, fault.BadGeometry Sequence z) ∷ (words, fault.BadCounts LevelOne a)
-    ∷ (entries, fault.BadCounts LevelTwo b) ∷ (span, fault.BadCounts Length c)
-    ∷ (format, fault.BadNullFormat d) ∷ [])) other l
-    ≡ cond none NotCckd (cond (heads || cylinders || tracks || size) NotYet (cond sequence NotYet
-    (cond (words || entries || span) NotYet (cond format NotYet (cond other NotYet (Ready l))))))
-opening_cases true heads cylinders tracks size sequence words entries span format other id v w x y z a b c d l = refl
-opening_cases false true cylinders tracks size sequence words entries span format other id v w x y z a b c d l = refl
-opening_cases false false true tracks size sequence words entries span format other id v w x y z a b c d l = refl
-opening_cases false false false true size sequence words entries span format other id v w x y z a b c d l = refl
-opening_cases false false false false true sequence words entries span format other id v w x y z a b c d l = refl
-opening_cases false false false false false true words entries span format other id v w x y z a b c d l = refl
-opening_cases false false false false false false true entries span format other id v w x y z a b c d l = refl
-opening_cases false false false false false false false true span format other id v w x y z a b c d l = refl
-opening_cases false false false false false false false false true format other id v w x y z a b c d l = refl
-opening_cases false false false false false false false false false true other id v w x y z a b c d l = refl
-opening_cases false false false false false false false false false false other id v w x y z a b c d l = refl
+take_all : (n : ℕ) (file : List ℕ) → length file ≤ n → take n file ≡ file
+take_all n file fits =
+    ap (take n) (sym (append-nil file)) ∙ ap (λ (m : ℕ). take m (file ++ [])) (omega (arith, fits))
+    ∙ take-append-add file [] (n - length file) ∙ ap (λ (s : List ℕ). file ++ s) (take_none (n - length file)) ∙ append-nil file
+
+read_by : {a b c d : List ℕ} → a ≡ b → c ≡ d → a ++ c ≡ b ++ d
+read_by e f = cc
+
+-- what a buffer of zeros holds after the front of a file was read to it
+pub filled : (n : ℕ) (file : List ℕ) → take n file ++ drop (length file) (replicate n 0) ≡ take n (file ++ replicate n 0)
+filled n file = ⊎_elim
+    (λ (less : length file < n).
+    let whole : take n file ≡ file = take_all n file (omega (arith, less)) in
+    let rest : drop (length file) (replicate n 0) ≡ take (n - length file) (replicate n 0) =
+    drop-replicate (length file) n 0 ∙ sym (take-replicate (n - length file) n 0 (omega arith)) in
+    ap (λ (s : List ℕ). s ++ drop (length file) (replicate n 0)) whole ∙ ap (λ (s : List ℕ). file ++ s) rest
+    ∙ sym (take-append-add file (replicate n 0) (n - length file))
+    ∙ ap (λ (m : ℕ). take m (file ++ replicate n 0)) (omega (arith, less)))
+    (λ (more : n ≤ length file).
+    let none : drop (length file) (replicate n 0) ≡ [] = drop_of_length-le (replicate n 0) (omega (arith, length-replicate {A = ℕ} n 0, more)) in
+    ap (λ (s : List ℕ). take n file ++ s) none ∙ append-nil (take n file) ∙ sym (take-append-le n file (replicate n 0) more))
+    (cases_lt (length file) n)
+
+-- the part that is read is the front of the file
+pub front_read : (file headers into : List ℕ) (len front n : ℕ) → n ≡ length headers → len ≡ length file → front ≡ min len n
+    → into ≡ take front (drop 0 file) → into ++ drop front headers ≡ take n file ++ drop (length file) headers
+front_read file headers into len front n room e f read = ⊎_elim
+    (λ (less : length file < n).
+    let short : front ≡ length file = omega (arith, e, f, less) in
+    read_by (read ∙ ap (λ (m : ℕ). take m file) short ∙ take-length file ∙ sym (take_all n file (omega (arith, less))))
+    (ap (λ (m : ℕ). drop m headers) short))
+    (λ (more : n ≤ length file).
+    let long : front ≡ n = omega (arith, e, f, more) in
+    read_by (read ∙ ap (λ (m : ℕ). take m file) long)
+    (ap (λ (m : ℕ). drop m headers) long ∙ drop_of_length-le headers (omega (arith, room))
+    ∙ sym (drop_of_length-le headers (omega (arith, room, more)))))
+    (cases_lt (length file) n)
+
+decoded_none : (o : Option HeaderFault) (h x : ImageHeader) → decoded o h ≡ Ok x → o ≡ None
+decoded_none None h x e = refl
+decoded_none (Some fault) h x e = absurd (cc e)
+
+decoded_some : (o : Option HeaderFault) (h : ImageHeader) (fault : HeaderFault) → decoded o h ≡ Err fault → o ≡ Some fault
+decoded_some None h fault e = absurd (cc e)
+decoded_some (Some other) h fault e = cc e
+
+first_test : (b : Bool) (fault : HeaderFault) (cases : List (Bool × HeaderFault)) → first_case ((b, fault) ∷ cases) ≡ None → b ≡ false
+first_test true fault cases e = absurd (cc e)
+first_test false fault cases e = refl
+
+tail_of : List (Bool × HeaderFault) → List (Bool × HeaderFault)
+tail_of [] = []
+tail_of (c ∷ cs) = cs
 
 -- a base is no shadow
-pub base_is_no_shadow : (headers : List ℕ) (len : ℕ) → is_other_file headers len ≡ false
+base_is_no_shadow : (headers : List ℕ) (len : ℕ) → header_fault (base_identifier ∷ []) headers len ≡ None
     → bytes_eq (identifier headers) shadow_identifier ≡ false
-unfolding is_other_file
+unfolding header_fault tail_of
 base_is_no_shadow headers len e =
-    let named = not-false _ (or_parts (nat_lt len 1024) _ e).1 in
+    let named = not-false _ (or_parts (nat_lt len 1024) _ (first_test (nat_lt len 1024 || not (list_any (bytes_eq (identifier headers)) (base_identifier ∷ []))) (fault.NotCckd (identifier headers)) (tail_of (header_cases (base_identifier ∷ []) headers len)) e)).1 in
     let is_base : identifier headers ≡ base_identifier =
     ⊎_elim (λ (h : bytes_eq (identifier headers) base_identifier ≡ true). (bytes_eq-Decides (identifier headers) base_identifier).0 h)
     (λ (h : false ≡ true). absurd (false≢true h))
     (or_cases (bytes_eq (identifier headers) base_identifier) false named) in
     ap (λ (x : List ℕ). bytes_eq x shadow_identifier) is_base
 
--- only the first case tells a file that is no image; every other one is a file that isn't served
-pub opening_is : (headers : List ℕ) (len : ℕ) (above : Bool)
-    → opening_of headers len above
-    ≡ cond (is_other_file headers len) NotCckd (cond (is_foreign_geometry (header_geometry headers)) NotYet
-    (cond (nat_lt 1 (header_sequence headers)) NotYet
-    (cond (are_counts_wrong headers len) NotYet
-    (cond (not (is_null_format (header_geometry headers) (header_null_format headers))) NotYet
-    (cond (is_big headers || above) NotYet (Ready (layout_of headers)))))))
-unfolding header_fault is_other_file is_foreign_geometry
-opening_is headers len above = opening_cases _ _ _ _ _ _ _ _ _ _ _ _ _ _ _ _ _ _ _ _ _ _
+-- headers that were decoded
+pub sound_headers : (file headers : List ℕ) (len n : ℕ) (header : ImageHeader) (l : Layout) (r : Result ImageHeader HeaderFault)
+    → headers ≡ headers_of file → len ≡ length file
+    → r ≡ decoded (header_fault (base_identifier ∷ []) headers len) (header_of headers) → r ≡ Ok header
+    → IsHeader header len → layout_by header ≡ layout_of headers → l ≡ layout_by header → n ≡ len
+    → HasSoundHeaders file l n
+sound_headers file headers len n header l r read measured answer ok is says by cut =
+    let none : header_fault (base_identifier ∷ []) headers len ≡ None = decoded_none _ (header_of headers) header (sym answer ∙ ok) in
+    let layout : l ≡ layout_of headers = by ∙ says in
+    record {
+      sound = subst (λ (h : List ℕ). header_fault (base_identifier ∷ []) h (length file) ≡ None) read
+          (subst (λ (m : ℕ). header_fault (base_identifier ∷ []) headers m ≡ None) measured none);
+      says = layout ∙ ap layout_of read;
+      measured = cut ∙ measured;
+      base = ap (λ (x : Layout). x.shadow) layout ∙ base_is_no_shadow headers len none;
+      short = omega (arith, is.fits.1, measured);
+    }
 
--- a file that is no base's
-pub opening_other_file : (headers : List ℕ) (len : ℕ) (above : Bool) → is_other_file headers len ≡ true
-    → opening_of headers len above ≡ NotCckd
-opening_other_file headers len above e = opening_is headers len above ∙ cond-true (is_other_file headers len) _ _ e
+pub bad_headers : (file headers : List ℕ) (len : ℕ) (fault : HeaderFault) (r : Result ImageHeader HeaderFault)
+    → headers ≡ headers_of file → len ≡ length file
+    → r ≡ decoded (header_fault (base_identifier ∷ []) headers len) (header_of headers) → r ≡ Err fault
+    → base_fault file ≡ Some fault
+bad_headers file headers len fault r read measured answer err =
+    subst (λ (h : List ℕ). header_fault (base_identifier ∷ []) h (length file) ≡ Some fault) read
+    (subst (λ (m : ℕ). header_fault (base_identifier ∷ []) headers m ≡ Some fault) measured
+    (decoded_some _ (header_of headers) fault (sym answer ∙ err)))
 
--- no case but the first tells more than that a file isn't served
-not_yet_at_last : (g s c n o : Bool) (l : Layout) → o ≡ true
-    → cond g NotYet (cond s NotYet (cond c NotYet (cond n NotYet (cond o NotYet (Ready l))))) ≡ NotYet
-not_yet_at_last true s c n o l e = refl
-not_yet_at_last false true c n o l e = refl
-not_yet_at_last false false true n o l e = refl
-not_yet_at_last false false false true o l e = refl
-not_yet_at_last false false false false o l e = cond-true o NotYet (Ready l) e
+-- the layout of headers that were accepted
+pub layout_is : (h : ImageHeader) (len : ℕ) (l : Layout) → IsHeader h len → l ≡ layout_by h → IsLayout l
+layout_is h len l is e =
+    subst IsLayout (sym e) (record { geometry = is.shape; groups = refl; format = is.format })
 
--- one that isn't served
-pub opening_not_served : (headers : List ℕ) (len : ℕ) (above : Bool) → is_other_file headers len ≡ false
-    → (is_big headers || above) ≡ true → opening_of headers len above ≡ NotYet
-opening_not_served headers len above e f =
-    opening_is headers len above ∙ cond-false (is_other_file headers len) _ _ e ∙ not_yet_at_last (is_foreign_geometry (header_geometry headers)) (nat_lt 1 (header_sequence headers))
-    (are_counts_wrong headers len) (not (is_null_format (header_geometry headers) (header_null_format headers))) _ (layout_of headers) f
-
-abbrev pub ready_or_not : Option Layout → Opening
-ready_or_not None = NotYet
-ready_or_not (Some l) = Ready l
-
-ready_at_last : (g s c n o : Bool) (l : Layout) → o ≡ false
-    → cond g NotYet (cond s NotYet (cond c NotYet (cond n NotYet (cond o NotYet (Ready l)))))
-    ≡ ready_or_not (cond g None (cond s None (cond c None (cond n None (Some l)))))
-ready_at_last true s c n o l e = refl
-ready_at_last false true c n o l e = refl
-ready_at_last false false true n o l e = refl
-ready_at_last false false false true o l e = refl
-ready_at_last false false false false o l e = cond-false o NotYet (Ready l) e
-
-counts_little : (headers : List ℕ) (len : ℕ) → is_big headers ≡ false
-    → are_counts_wrong headers len ≡ are_foreign_counts headers (group_count (header_geometry headers)) len
-unfolding are_foreign_counts
-counts_little headers len little =
-    ap (λ (o : Order).
-    not (number_at o w32 headers 516 == group_count (header_geometry headers)) || not (number_at o w32 headers 520 == 256)
-    || is_outside (area_of (group_count (header_geometry headers))) 2147483640 len)
-    (cond-false (is_big headers) Big Little little)
-
--- and a little-endian base, alone
-pub opening_little : (headers : List ℕ) (len : ℕ) (above : Bool) → is_other_file headers len ≡ false
-    → is_big headers ≡ false → above ≡ false → opening_of headers len above ≡ ready_or_not (little_layout_of headers len)
-unfolding little_layout_of
-opening_little headers len above e f g =
-    opening_is headers len above ∙ cond-false (is_other_file headers len) _ _ e
-    ∙ ready_at_last (is_foreign_geometry (header_geometry headers)) (nat_lt 1 (header_sequence headers))
-    (are_counts_wrong headers len) (not (is_null_format (header_geometry headers) (header_null_format headers))) _ (layout_of headers) (or_from (is_big headers) above f g)
-    ∙ ap (λ (c : Bool). ready_or_not (cond (is_foreign_geometry (header_geometry headers)) None
-    (cond (nat_lt 1 (header_sequence headers)) None (cond c None
-    (cond (not (is_null_format (header_geometry headers) (header_null_format headers))) None (Some (layout_of headers)))))))
-    (counts_little headers len f)
-
--- the layout where a test fails
-pub no_layout_geometry : (headers : List ℕ) (len : ℕ) → is_foreign_geometry (header_geometry headers) ≡ true
-    → little_layout_of headers len ≡ None
-unfolding little_layout_of
-no_layout_geometry headers len e = cond-true _ _ _ e
-
-pub no_layout_sequence : (headers : List ℕ) (len : ℕ) → is_foreign_geometry (header_geometry headers) ≡ false
-    → nat_lt 1 (header_sequence headers) ≡ true → little_layout_of headers len ≡ None
-unfolding little_layout_of
-no_layout_sequence headers len e f = cond-false _ _ _ e ∙ cond-true _ _ _ f
-
-pub no_layout_counts : (headers : List ℕ) (len : ℕ) → is_foreign_geometry (header_geometry headers) ≡ false
-    → nat_lt 1 (header_sequence headers) ≡ false → are_foreign_counts headers (group_count (header_geometry headers)) len ≡ true
-    → little_layout_of headers len ≡ None
-unfolding little_layout_of
-no_layout_counts headers len e f g = cond-false _ _ _ e ∙ cond-false _ _ _ f ∙ cond-true _ _ _ g
-
-pub no_layout_format : (headers : List ℕ) (len : ℕ) → is_foreign_geometry (header_geometry headers) ≡ false
-    → nat_lt 1 (header_sequence headers) ≡ false → are_foreign_counts headers (group_count (header_geometry headers)) len ≡ false
-    → not (is_null_format (header_geometry headers) (header_null_format headers)) ≡ true
-    → little_layout_of headers len ≡ None
-unfolding little_layout_of
-no_layout_format headers len e f g h = cond-false _ _ _ e ∙ cond-false _ _ _ f ∙ cond-false _ _ _ g ∙ cond-true _ _ _ h
-
-pub some_layout : (headers : List ℕ) (len : ℕ) → is_foreign_geometry (header_geometry headers) ≡ false
-    → nat_lt 1 (header_sequence headers) ≡ false → are_foreign_counts headers (group_count (header_geometry headers)) len ≡ false
-    → not (is_null_format (header_geometry headers) (header_null_format headers)) ≡ false
-    → little_layout_of headers len ≡ Some (layout_of headers)
-unfolding little_layout_of
-some_layout headers len e f g h = cond-false _ _ _ e ∙ cond-false _ _ _ f ∙ cond-false _ _ _ g ∙ cond-false _ _ _ h
-
--- a layout that no test refused is served
-pub served_layout : (headers : List ℕ) (len : ℕ) (l : Layout) → l ≡ layout_of headers → is_big headers ≡ false
-    → is_other_file headers len ≡ false → IsGeometry (header_geometry headers) → header_null_format headers < 2
-    → (area_of (group_count (header_geometry headers)) ≤ len) × (len ≤ 2147483640) → IsServed l len
-served_layout headers len l e little base sound format fits =
-    subst (λ (x : Layout). IsServed x len) (sym e) (record {
-      layout = record { geometry = sound; groups = refl; format = format };
-      order = cond-false (is_big headers) Big Little little;
-      base = base_is_no_shadow headers len base;
-      area = fits.0;
-      short = fits.1;
-    })
-
--- a file that is too short for its headers
-pub opening_short_file : (headers : List ℕ) (len : ℕ) (above : Bool) → len < 1024 → opening_of headers len above ≡ NotCckd
-unfolding is_other_file
-opening_short_file headers len above short =
-    opening_other_file headers len above (or_left (nat_lt len 1024) _ (lt-ltb len 1024 short))
-
--- the headers of a file that is long enough
-pub headers_of_long : (file : List ℕ) → 1024 ≤ length file → headers_of file ≡ take 1024 (drop 0 file)
-headers_of_long file long = take-append-le 1024 file (replicate 1024 0) long
-
--- what was read of a file that is long enough
-pub opening_read : (file headers : List ℕ) (len : ℕ) (above : Bool) (given : Opening) → len ≡ length file → 1024 ≤ len
-    → headers ≡ take 1024 (drop 0 file) → given ≡ opening_of headers len above
-    → given ≡ opening_of (headers_of file) (length file) above
-opening_read file headers len above given e long read answer =
-    answer
-    ∙ ap (λ (h : List ℕ). opening_of h len above) (read ∙ sym (headers_of_long file (subst (λ (n : ℕ). 1024 ≤ n) e long)))
-    ∙ ap (λ (n : ℕ). opening_of (headers_of file) n above) e
+pub area_is : (h : ImageHeader) (len n : ℕ) (l : Layout) → IsHeader h len → l ≡ layout_by h → n ≡ len → area_of l.groups ≤ n
+area_is h len n l is e cut = omega (arith, is.fits.0, cut, ap (λ (x : Layout). x.groups) e)

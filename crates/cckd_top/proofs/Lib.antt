@@ -1,13 +1,17 @@
-mod CauseLemmas
-mod ExplainedLemmas
-mod FaultLemmas
-mod Binding
-mod HeaderLemmas
-mod NameLemmas
-mod PutLemmas
-mod Putting
-mod ReplyLemmas
-mod ScriptLemmas
-mod TableLemmas
-mod Taking
-mod WorldLemmas
+pub mod FaultLemmas
+pub mod WorldLemmas
+pub mod NameLemmas
+pub mod Putting
+pub mod Feeds
+pub mod Filling
+pub mod Finding
+pub mod CleanLemmas
+pub mod ReplyLemmas
+pub mod ServingLemmas
+pub mod ScriptLemmas
+pub mod ScriptSteps
+pub mod Binding
+pub mod ShadowLemmas
+pub mod HeaderLemmas
+pub mod MountLemmas
+pub mod ExplainedLemmas

@@ -4,7 +4,7 @@ use Rattle.std.proofs.Math.Seq.{take-add, take-length}
 use Rattle.cckd_shelf.specs.declared.fault.Faults.{Faults}
 use Rattle.cckd_shelf.specs.declared.fault.Kind.TheVariants.{Puts}
 use Rattle.cckd_shelf.specs.Faults.{Fails}
-use Rattle.cckd_shelf.specs.World.{World, output_of, after_put}
+use Rattle.cckd_shelf.specs.World.{World, output_of, file_of, after_put}
 use Rattle.cckd_top.specs.World.{KeepsFiles, file_ops}
 use Rattle.cckd_top.proofs.FaultLemmas.{went_well, fails_then}
 use Rattle.cckd_top.proofs.WorldLemmas.{keeps_files_twice}
@@ -14,6 +14,7 @@ pub record IsPutSoFar (tells : Type 0) (old now : World) (before after : Faults)
   pub within : n ≤ length text
   pub output : tells → output_of now.events ≡ output_of old.events ++ take n text
   pub files : tells → KeepsFiles old now
+  pub file : tells → file_of now 0 ≡ file_of old 0
   pub script : tells → now.script ≡ old.script
   pub fails : Fails Puts went_well before after
 
@@ -41,6 +42,7 @@ put_more tells old now next before after later text n m so_far fits stepped fine
           ∙ ap (λ (s : List ℕ). output_of old.events ++ s) (sym (take-add n m text));
       files = λ told. keeps_files_twice old now next (so_far.files told)
           (subst (KeepsFiles now) (sym (stepped told)) (keeps_at_put now bytes));
+      file = λ told. ap (λ (w : World). file_of w 0) (stepped told) ∙ so_far.file told;
       script = λ told. ap (λ (w : World). w.script) (stepped told) ∙ so_far.script told;
       fails = fails_then Puts went_well went_well before after later so_far.fails fine;
     }

@@ -1,22 +1,24 @@
 -- The reply to a read, by the bytes that were found.
-use Rattle.std.proofs.Common.{◌≡◌, ℕ, ◌<◌, List, [], ◌∷◌, ◌++◌, length, take, drop, Option, Some, None, cond, IsSome, refl, sym, ◌∙◌, ap, subst, arith}
+use Rattle.std.proofs.Common.{◌≡◌, ◌≢◌, ℕ, ◌+◌, ◌/◌, ◌<◌, ◌≤◌, ◌==◌, Bool, true, false, List, [], ◌∷◌, ◌++◌, length, take, drop, cond, unwrap_or, Some, None, refl, sym, ◌∙◌, ap, subst, arith}
 use Rattle.std.proofs.Math.Seq.{take-append_seam, take-length}
+use Rattle.std.proofs.lemmas.Bool.{false≢true, eq-eqb, ne_eqb, or_parts, ltb-false}
+use borrow.Author.Tests.{ltb-true}
 use Rattle.cckd_base.specs.declared.geometry.Layout.{Layout}
-use Rattle.std.specs.Option.{is_none}
-use Rattle.cckd_base.specs.declared.geometry.Addr.{Addr}
 use Rattle.cckd_base.specs.declared.entry.L2Entry.{L2Entry}
 use Rattle.cckd_base.specs.declared.misfit.Misfit.{Misfit}
-use Rattle.cckd_base.specs.declared.fault.TrackFault.{TrackFault}
-use Rattle.cckd_base.specs.declared.reply.Reply.{Reply}
 use Rattle.cckd_base.specs.declared.reply.Reply.TheVariants as reply
-use Rattle.cckd_base.specs.declared.reply.Refusal.TheVariants as refusal
-use Rattle.cckd_base.specs.Entry.{entry_at}
-use Rattle.cckd_base.specs.Geometry.{track_at, track_count, IsLayout, IsNullFormat}
+use Rattle.cckd_base.specs.Geometry.{track_count, IsLayout, IsNullFormat}
+use Rattle.cckd_base.specs.Entry.{see_parent, null_entry, parent_entry, word_at, entry_by_word, entry_in_table, entry_at, bytes_by_entry}
+use Rattle.cckd_base.specs.Misfit.{is_missized, table_misfit, entry_misfit}
+use Rattle.cckd_base.specs.Numbers.{bytes_at}
 use Rattle.cckd_base.specs.Track.{null_track, spelled_track, track_fault, track_value}
 use Rattle.cckd_base.specs.Answer.{reply_by_fault}
 use Rattle.cckd_base.proofs.FaultlessLemmas.{has_home}
-use Rattle.cckd_base.proofs.TrackLemmas.{null_passes_lem}
-use Rattle.cckd_top.specs.Run.{IsReplyTo, IsReadOf, IsAnswered, ReadsAt, HasReplyCause, track_misfit, sound_entry, bytes_of_entry}
+use Rattle.cckd_base.proofs.TrackLemmas.{null_passes_lem, null_fits_lem}
+use Rattle.cckd_top.specs.Opening.{IsMounted}
+use Rattle.cckd_top.specs.Lookup.{group_entry}
+use Rattle.cckd_top.specs.Reading.{IsReplyTo, visible}
+use Rattle.cckd_top.proofs.CleanLemmas.{clean_word, clean_entry}
 
 -- bytes that the track check accepts have a flag byte
 pub has_flag : (l : Layout) (t : ℕ) (bytes : List ℕ) → track_fault l t bytes ≡ None → 0 < length bytes
@@ -30,14 +32,20 @@ value_of_null l t format = refl
 -- the buffer holds the null track
 pub null_replied : (l : Layout) (t format n : ℕ) (old new : List ℕ) → IsLayout l → t < track_count l.geo → IsNullFormat l.geo format
     → n ≡ length (null_track l t format) → new ≡ null_track l t format ++ drop n old
-    → IsReplyTo l t (null_track l t format) (reply.Track n) new
+    → IsReplyTo l t (null_track l t format) (reply.Track n) (take n new)
 null_replied l t format n old new layout track known count written = record {
   replied =
       ap reply.Track count ∙ ap (reply_by_fault (null_track l t format)) (sym (null_passes_lem l t format layout track known));
   valued = λ _.
-      ap (take (length (null_track l t format))) written ∙ take-append_seam (null_track l t format) (drop n old)
+      ap (λ (m : ℕ). take m new) count ∙ ap (take (length (null_track l t format))) written
+      ∙ take-append_seam (null_track l t format) (drop n old)
       ∙ sym (value_of_null l t format);
 }
+
+-- a null track is no longer than a line has room for
+pub null_is_short : (l : Layout) (t format n : ℕ) → IsLayout l → IsNullFormat l.geo format → n ≡ length (null_track l t format) → n ≤ 65024
+null_is_short l t format n layout known count =
+    let fits = null_fits_lem l t format layout known in omega (arith, layout.geometry.greatest_track)
 
 length_of_value : (bytes : List ℕ) → 0 < length bytes → length (track_value bytes) ≡ length bytes
 length_of_value [] some = absurd (omega (arith, some))
@@ -45,54 +53,127 @@ length_of_value (b ∷ bytes) some = refl
 
 -- the buffer holds the value of the bytes that it held
 pub stored_replied : (l : Layout) (t : ℕ) (old new : List ℕ) → track_fault l t old ≡ None → new ≡ track_value old
-    → IsReplyTo l t old (reply.Track (length new)) new
+    → IsReplyTo l t old (reply.Track (length new)) (take (length new) new)
 stored_replied l t old new sound cleared =
     let same : length new ≡ length old = ap length cleared ∙ length_of_value old (has_flag l t old sound) in
     record {
       replied = ap reply.Track same ∙ ap (reply_by_fault old) (sym sound);
-      valued = λ _. ap (λ n. take n new) (sym same) ∙ take-length new ∙ cleared;
+      valued = λ _. take-length new ∙ cleared;
     }
 
--- a reply to some bytes is an answer
-answered_by : (bytes : List ℕ) (fault : Option TrackFault) → IsAnswered (reply_by_fault bytes fault)
-answered_by bytes None = tt
-answered_by bytes (Some fault) = tt
+-- what an entry of a sound base is
+pub record FitsFile (file : List ℕ) (e : L2Entry) : Type 0 where
+  pub null : e.pos ≡ 0 → e.len < 2
+  pub stored : e.pos ≢ 0 → e.pos + e.len ≤ length file
+  pub here : e.pos ≢ see_parent
 
-pub is_answered : (l : Layout) (t : ℕ) (bytes : List ℕ) (given : Reply) (buffer : List ℕ) → IsReplyTo l t bytes given buffer → IsAnswered given
-is_answered l t bytes given buffer h = subst IsAnswered (sym h.replied) (answered_by bytes (track_fault l t bytes))
+entry_cases : (null known parent shadow bad : Bool) (x y z : Misfit) → shadow ≡ false
+    → cond null (cond known None (Some x)) (cond parent (cond shadow None (Some y)) (cond bad (Some z) None)) ≡ None
+    → (null ≡ true → known ≡ true) × (null ≡ false → (parent ≡ false) × (bad ≡ false))
+entry_cases true true parent shadow bad x y z base e = (λ _. refl, λ n. absurd (false≢true (sym n)))
+entry_cases true false parent shadow bad x y z base e = absurd (cc e)
+entry_cases false known true true bad x y z base e = absurd (false≢true (sym base))
+entry_cases false known true false bad x y z base e = absurd (cc e)
+entry_cases false known false shadow true x y z base e = absurd (cc e)
+entry_cases false known false shadow false x y z base e = (λ n. absurd (false≢true n), λ _. (refl, refl))
 
--- a misfit is why no entry is taken
-misfit_from_none : (m : Option Misfit) (e : L2Entry) → cond (is_none m) (Some e) None ≡ None → IsSome m
-misfit_from_none None e h = absurd (cc h)
-misfit_from_none (Some m) e h = refl
+table_cases : (null parent shadow bad : Bool) (x y : Misfit) → shadow ≡ false
+    → cond null None (cond parent (cond shadow None (Some x)) (cond bad (Some y) None)) ≡ None
+    → null ≡ false → (parent ≡ false) × (bad ≡ false)
+table_cases true parent shadow bad x y base e n = absurd (false≢true (sym n))
+table_cases false true true bad x y base e n = absurd (false≢true (sym base))
+table_cases false true false bad x y base e n = absurd (cc e)
+table_cases false false shadow true x y base e n = absurd (cc e)
+table_cases false false shadow false x y base e n = (refl, refl)
 
-pub no_entry_has_misfit : (l : Layout) (file : List ℕ) (t : ℕ) (found : Option L2Entry) → found ≡ sound_entry l file t → found ≡ None
-    → IsSome (track_misfit l file t)
-unfolding sound_entry
-no_entry_has_misfit l file t found e none = misfit_from_none (track_misfit l file t) (entry_at l file t) (sym e ∙ none)
+-- a test that failed
+not_equal : (a b : ℕ) → (a == b) ≡ false → a ≢ b
+not_equal a b e is = false≢true (sym e ∙ eq-eqb a b is)
 
--- an entry that is taken is the track's, and has no misfit
-taken_from_some : (m : Option Misfit) (e entry : L2Entry) → Some entry ≡ cond (is_none m) (Some e) None → (m ≡ None) × (entry ≡ e)
-taken_from_some None e entry h = (refl, cc h)
-taken_from_some (Some m) e entry h = absurd (cc h)
+-- an entry of a base that is no misfit
+fits_no_misfit : (l : Layout) (file : List ℕ) (t : ℕ) (e : L2Entry) → l.shadow ≡ false → entry_misfit l (length file) t e ≡ None → FitsFile file e
+fits_no_misfit l file t e base none =
+    let facts = entry_cases _ _ _ _ _ _ _ _ base none in
+    record {
+      null = λ is. ltb-true e.len 2 (facts.0 (eq-eqb e.pos 0 is));
+      stored = λ is.
+          let placed = (or_parts _ (is_missized e) (facts.1 (ne_eqb e.pos 0 is)).1).0 in
+          ltb-false (length file) (e.pos + e.len) (or_parts _ _ placed).1;
+      here = λ is.
+          let some : e.pos ≢ 0 = λ p. absurd (omega (arith, p, is)) in
+          false≢true (sym (facts.1 (ne_eqb e.pos 0 some)).0 ∙ eq-eqb e.pos see_parent is);
+    }
 
-pub entry_is_taken : (l : Layout) (file : List ℕ) (t : ℕ) (found : Option L2Entry) (entry : L2Entry) → found ≡ sound_entry l file t
-    → found ≡ Some entry → (track_misfit l file t ≡ None) × (entry ≡ entry_at l file t)
-unfolding sound_entry
-entry_is_taken l file t found entry e some = taken_from_some (track_misfit l file t) (entry_at l file t) entry (sym some ∙ e)
+group_parts : (p q : Bool) (a b : L2Entry) → cond p (Some a) (cond q (Some b) None) ≡ None → (p ≡ false) × (q ≡ false)
+group_parts true q a b e = absurd (cc e)
+group_parts false true a b e = absurd (cc e)
+group_parts false false a b e = (refl, refl)
 
--- the reply to the bytes of the entry is the reply to the track
-pub read_of_entry : (l : Layout) (file : List ℕ) (t : ℕ) (found : Option L2Entry) (entry : L2Entry) (given : Reply) (buffer : List ℕ)
-    → found ≡ sound_entry l file t → found ≡ Some entry → IsReplyTo l t (bytes_of_entry l file t entry) given buffer
-    → (track_misfit l file t ≡ None) × IsReadOf l file t given buffer
-read_of_entry l file t found entry given buffer e some h =
-    let taken = entry_is_taken l file t found entry e some in
-    (taken.0, subst (λ (x : L2Entry). IsReplyTo l t (bytes_of_entry l file t x) given buffer) taken.1 h)
+module _ (l : Layout) (file : List ℕ) (t : ℕ) (mounted : IsMounted l file) (track : t < track_count l.geo) where
+  group_less : t / 256 < l.groups
+  group_less = omega (arith, mounted.layout.groups, track)
 
--- an answer is the disk's, where it is told
-pub reply_has_cause : (told rose : Type 0) (l : Layout) (file : List ℕ) (at : Addr) (given : Reply) (buffer : List ℕ)
-    → IsAnswered given → (told → ReadsAt l file (track_at l.geo at) given buffer) → HasReplyCause told l file rose at given buffer
-reply_has_cause told rose l file at (reply.Track len) buffer answered reads = reads
-reply_has_cause told rose l file at (reply.Refused refusal.NoSuchTrack) buffer answered reads = absurd answered
-reply_has_cause told rose l file at (reply.Refused (refusal.Track fault)) buffer answered reads = reads
-reply_has_cause told rose l file at (reply.Refused refusal.ReadFault) buffer answered reads = absurd answered
+  -- a word that speaks for no whole group names a table inside the file
+  pub table_inside : (word : ℕ) → word ≡ word_at l file (t / 256) → group_entry l word ≡ None → word + 2048 ≤ length file
+  table_inside word is none =
+      let facts = group_parts (word == 0) (word == see_parent) (null_entry l.null_fmt) parent_entry none in
+      let clean : table_misfit l (length file) (t / 256) word ≡ None =
+      subst (λ (w : ℕ). table_misfit l (length file) (t / 256) w ≡ None) (sym is) (clean_word l file mounted.clean (t / 256) group_less) in
+      let placed = (table_cases _ _ _ _ _ _ mounted.base clean facts.0).1 in
+      ltb-false (length file) (word + 2048) (or_parts _ _ placed).1
+
+  fits_by : (p q : Bool) → (word_at l file (t / 256) == 0) ≡ p → (word_at l file (t / 256) == see_parent) ≡ q
+      → FitsFile file (cond p (null_entry l.null_fmt) (cond q parent_entry (entry_in_table l file (word_at l file (t / 256)) t)))
+  fits_by true q e f = record {
+    null = λ _. mounted.layout.format;
+    stored = λ is. absurd (is refl);
+    here = λ is. absurd (omega (arith, is));
+  }
+  fits_by false true e f =
+      let facts = table_cases _ _ _ _ _ _ mounted.base (clean_word l file mounted.clean (t / 256) group_less) e in
+      absurd (false≢true (sym facts.0 ∙ f))
+  fits_by false false e f =
+      fits_no_misfit l file t (entry_in_table l file (word_at l file (t / 256)) t) mounted.base
+      (clean_entry l file mounted.clean t group_less track (not_equal _ 0 e) (not_equal _ see_parent f))
+
+  -- the entry of each track
+  pub fits : FitsFile file (entry_at l file t)
+  fits = fits_by (word_at l file (t / 256) == 0) (word_at l file (t / 256) == see_parent) refl refl
+
+-- an entry that a word gives to its whole group is that of each track, and else the table has it
+pub entry_of_word : (l : Layout) (file : List ℕ) (t word : ℕ) → word ≡ word_at l file (t / 256)
+    → entry_at l file t ≡ entry_by_word l file word t
+entry_of_word l file t word e = ap (λ (w : ℕ). entry_by_word l file w t) (sym e)
+
+pub entry_of_all_is : (p q : Bool) (a b c e : L2Entry) → cond p (Some a) (cond q (Some b) None) ≡ Some e → cond p a (cond q b c) ≡ e
+entry_of_all_is true q a b c e h = cc h
+entry_of_all_is false true a b c e h = cc h
+entry_of_all_is false false a b c e h = absurd (cc h)
+
+pub entry_of_none_is : (p q : Bool) (a b c : L2Entry) → cond p (Some a) (cond q (Some b) None) ≡ None → cond p a (cond q b c) ≡ c
+entry_of_none_is true q a b c h = absurd (cc h)
+entry_of_none_is false true a b c h = absurd (cc h)
+entry_of_none_is false false a b c h = refl
+
+visible_by : (null parent : Bool) (x y : List ℕ) → null ≡ true → unwrap_or (cond null (Some x) (cond parent None (Some y))) [] ≡ x
+visible_by true parent x y e = refl
+visible_by false parent x y e = absurd (false≢true e)
+
+stored_by : (null parent : Bool) (x y : List ℕ) → null ≡ false → parent ≡ false → unwrap_or (cond null (Some x) (cond parent None (Some y))) [] ≡ y
+stored_by true parent x y e f = absurd (false≢true (sym e))
+stored_by false true x y e f = absurd (false≢true (sym f))
+stored_by false false x y e f = refl
+
+-- the visible bytes of a track with a null entry, and with one of stored bytes
+pub visible_null : (l : Layout) (file : List ℕ) (t : ℕ) (e : L2Entry) → e ≡ entry_at l file t → e.pos ≡ 0
+    → visible l file t ≡ null_track l t e.len
+visible_null l file t e is null =
+    ap (λ (x : L2Entry). unwrap_or (bytes_by_entry null_track l file t x) []) (sym is)
+    ∙ visible_by (e.pos == 0) (e.pos == see_parent) (null_track l t e.len) (bytes_at file e.pos e.len) (eq-eqb e.pos 0 null)
+
+pub visible_stored : (l : Layout) (file : List ℕ) (t : ℕ) (e : L2Entry) → e ≡ entry_at l file t → e.pos ≢ 0 → e.pos ≢ see_parent
+    → visible l file t ≡ bytes_at file e.pos e.len
+visible_stored l file t e is some here =
+    ap (λ (x : L2Entry). unwrap_or (bytes_by_entry null_track l file t x) []) (sym is)
+    ∙ stored_by (e.pos == 0) (e.pos == see_parent) (null_track l t e.len) (bytes_at file e.pos e.len)
+    (ne_eqb e.pos 0 some) (ne_eqb e.pos see_parent here)

@@ -1,133 +1,154 @@
--- Two numbers with a blank between them are told apart by the first blank.
-use Rattle.std.proofs.Common.{◌≡◌, ◌⊎◌, ⊎_elim, ℕ, ◌+◌, ◌-◌, ◌%◌, ◌<◌, ◌≤◌, ◌^◌, Bool, true, cond, nat_lt, List, [], ◌∷◌, ◌++◌, length, take, drop, position, codes, decimal, MatchOption, Option, Some, None, refl, sym, ◌∙◌, ap, subst, arith, append_assoc, length-append, length-drop, get_or}
-use Rattle.std.specs.List.{position_or_len}
-use Rattle.std.specs.Str.Parse.{AllDigits}
-use Rattle.std.proofs.lemmas.Bool.{cases_lt, lt-ltb, le-ltb}
-use Rattle.std.proofs.lemmas.Bool.Decides.{nat_tests}
-use Rattle.std.proofs.lemmas.Fmt.{decimal_is_IsNumeral, decimal_by_steps}
-use Rattle.std.proofs.lemmas.List.{same_from_push, append_cancel_right}
-use Rattle.std.proofs.lemmas.List.Sums.{split_at_first, passes_at_first}
-use Rattle.std.proofs.lemmas.Str.Parse.{digit_from_value}
-use Rattle.std.proofs.Math.Seq.{take-append_seam, take-length, drop-append-add}
-use Rattle.cckd_base.specs.declared.geometry.Addr.{Addr}
-use Rattle.cckd_top.specs.Script.{IsPair, HasNoRead, is_blank, read_line}
+-- A script that is served line by line: what was asked of it so far, and what is left.
+use Rattle.std.proofs.Common.{◌≡◌, ◌⊎◌, inl, inr, ⊎_elim, ℕ, ◌+◌, ◌<◌, ◌≤◌, nat_lt, Bool, true, false, List, [], ◌∷◌, ◌++◌, length, take, refl, sym, ◌∙◌, ap, arith, append-nil, append_assoc, length-append}
+use Rattle.std.proofs.lemmas.Bool.{cases_lt, lt-ltb, le-ltb, cond-true, cond-false, false≢true}
+use Rattle.std.proofs.lemmas.Grind.{flat_map-append}
+use Rattle.std.proofs.Math.Seq.{take-append-add}
+use Rattle.cckd_base.specs.declared.call.Call.TheVariants.{Close}
+use Rattle.cckd_script.specs.declared.misread.Item.{Item}
+use Rattle.cckd_script.specs.declared.misread.Item.TheVariants.{Asked, Misread}
+use Rattle.cckd_script.specs.declared.misread.Misreading.TheVariants as misreading
+use Rattle.cckd_script.specs.Lines.{lines_of, ended_lines, StopsAtLine, HasNoFeed}
+use Rattle.cckd_script.specs.Items.{line_items, items_of_lines, cut_items, script_items}
+use Rattle.cckd_script.proofs.LineLemmas.{lines-append, ended-append, ended_all, stops_more, lines_more, lines_unfed, ended_unfed}
+use Rattle.cckd_top.specs.Lines.{fed, last, IsLine, BreaksOff}
 
--- the first blank behind digits
-pub first_blank-digits : (a b : List ℕ) → AllDigits 10 a → position_or_len is_blank (a ++ 32 ∷ b) ≡ length a
-first_blank-digits [] b _ = refl
-first_blank-digits (c ∷ a) b h =
-    let range = digit_from_value c h.0 in
-    let rest = first_blank-digits a b h.1 in grind (arith, nat_tests)
+-- A script was served up to here: these items are those of the lines before, and this is left of it, of which so many bytes are
+-- within the limit. A line without a feed was the last.
+pub record IsReadUpTo (limit : ℕ) (script rest : List ℕ) (left : ℕ) (ended : Bool) (items : List Item) : Type 0 where
+  pub consumed : List ℕ
+  pub split : script ≡ consumed ++ rest
+  pub allowed : length consumed + left ≡ limit
+  pub asked : items ≡ items_of_lines (lines_of consumed)
+  pub stops : StopsAtLine consumed ⊎ ((rest ≡ []) × (ended ≡ true))
 
-first_blank-pair : (text : List ℕ) (at : Addr) → at.cyl < 2 ^ 16 → IsPair text at
-    → position_or_len is_blank text ≡ length (decimal at.cyl)
-first_blank-pair text at small e =
-    ap (position_or_len is_blank) (e ∙ append_assoc (decimal at.cyl) (32 ∷ []) (decimal at.head))
-    ∙ first_blank-digits (decimal at.cyl) (decimal at.head) (decimal_is_IsNumeral at.cyl (omega arith)).0.1
+-- nothing was served
+pub reads_none : (limit : ℕ) (script : List ℕ) → IsReadUpTo limit script script limit false []
+reads_none limit script = record { consumed = []; split = refl; allowed = omega arith; asked = refl; stops = inl (inl refl) }
 
--- where a pair has its first blank, and what stands before and behind it
-pub record SplitsPair (text : List ℕ) (at : Addr) (blank : ℕ) : Type 0 where
-  pub within : blank < length text
-  pub before : take blank text ≡ decimal at.cyl
-  pub after : take (length text - (blank + 1)) (drop (blank + 1) text) ≡ decimal at.head
+items_push : (lines : List (List ℕ)) (line : List ℕ) → items_of_lines (lines ++ line ∷ []) ≡ items_of_lines lines ++ line_items line
+items_push lines line = flat_map-append line_items lines (line ∷ []) ∙ ap (λ (s : List Item). items_of_lines lines ++ s) (append-nil (line_items line))
 
--- the rest of a list behind a place
-rest_is : (n : ℕ) (xs : List ℕ) → take (length xs - n) (drop n xs) ≡ drop n xs
-rest_is n xs = let e = length-drop n xs in rw (← e) (take-length (drop n xs))
+module _ (limit : ℕ) (script rest : List ℕ) (left : ℕ) (ended : Bool) (items : List Item) (so_far : IsReadUpTo limit script rest left ended items) where
+  stops_here : 0 < length rest → StopsAtLine so_far.consumed
+  stops_here some = ⊎_elim (λ (h : StopsAtLine so_far.consumed). h)
+      (λ (h : (rest ≡ []) × (ended ≡ true)). absurd (omega (arith, some, ap length h.0))) so_far.stops
 
-splits_at_seam : (at : Addr) → SplitsPair (decimal at.cyl ++ 32 ∷ decimal at.head) at (length (decimal at.cyl))
-splits_at_seam at = record {
-  within = omega (arith, length-append (decimal at.cyl) (32 ∷ decimal at.head));
-  before = take-append_seam (decimal at.cyl) (32 ∷ decimal at.head);
-  after =
-      rest_is (length (decimal at.cyl) + 1) (decimal at.cyl ++ 32 ∷ decimal at.head)
-      ∙ drop-append-add (decimal at.cyl) (32 ∷ decimal at.head) 1;
-}
+  -- a line more
+  pub reads_on : (line rest' : List ℕ) (left' : ℕ) (ended' : Bool) → IsLine line rest rest' left left' ended'
+      → IsReadUpTo limit script rest' left' ended' (items ++ line_items line)
+  reads_on line rest' left' ended' found =
+      let stops = stops_here found.some in
+      elim found.begins [
+        | fed free is ↦ record {
+          consumed = so_far.consumed ++ (line ++ 10 ∷ []);
+          split =
+              so_far.split ∙ ap (λ (s : List ℕ). so_far.consumed ++ s) (is ∙ sym (append_assoc line (10 ∷ []) rest'))
+              ∙ sym (append_assoc so_far.consumed (line ++ 10 ∷ []) rest');
+          allowed =
+              omega (
+                arith,
+                so_far.allowed,
+                found.shared,
+                length-append so_far.consumed (line ++ 10 ∷ []),
+                length-append line (10 ∷ []),
+                length-append line (10 ∷ rest'),
+                ap length is,
+              );
+          asked =
+              ap (λ (s : List Item). s ++ line_items line) so_far.asked ∙ sym (items_push (lines_of so_far.consumed) line)
+              ∙ sym (ap items_of_lines (lines_more so_far.consumed line stops free));
+          stops = inl (stops_more so_far.consumed line);
+        }
+        | last free is empty at_end ↦ record {
+          consumed = so_far.consumed ++ line;
+          split =
+              so_far.split ∙ ap (λ (s : List ℕ). so_far.consumed ++ s) is
+              ∙ sym (append-nil (so_far.consumed ++ line)) ∙ ap (λ (s : List ℕ). (so_far.consumed ++ line) ++ s) (sym empty);
+          allowed =
+              omega (arith, so_far.allowed, found.shared, length-append so_far.consumed line, ap length is, ap length empty);
+          asked =
+              ap (λ (s : List Item). s ++ line_items line) so_far.asked ∙ sym (items_push (lines_of so_far.consumed) line)
+              ∙ sym (ap items_of_lines (lines_unfed so_far.consumed line stops free (omega (arith, found.some, ap length is))));
+          stops = inr (empty, at_end);
+        }
+      ]
 
--- what a first place says of the length of the front that fails
-first_place : (text : List ℕ) (n : ℕ) (found : Option ℕ)
-    → cond (nat_lt n (length text)) (Some n) None ≡ found → MatchOption found (length text ≤ n) (λ i. (i ≡ n) × (n < length text))
-first_place text n found e =
-    ⊎_elim
-    (λ (less : n < length text). subst (λ (o : Option ℕ). MatchOption o (length text ≤ n) (λ i. (i ≡ n) × (n < length text)))
-    (sym (ap (λ (b : Bool). cond b (Some n) None) (lt-ltb n (length text) less)) ∙ e) (refl, less))
-    (λ (more : length text ≤ n). subst (λ (o : Option ℕ). MatchOption o (length text ≤ n) (λ i. (i ≡ n) × (n < length text)))
-    (sym (ap (λ (b : Bool). cond b (Some n) None) (le-ltb n (length text) more)) ∙ e) more)
-    (cases_lt n (length text))
+  -- the whole script
+  pub reads_all : rest ≡ [] → items ++ Asked Close ∷ [] ≡ script_items limit script
+  reads_all none =
+      let whole : script ≡ so_far.consumed = so_far.split ∙ ap (λ (s : List ℕ). so_far.consumed ++ s) none ∙ append-nil so_far.consumed in
+      let short : length script ≤ limit = omega (arith, ap length whole, so_far.allowed) in
+      ap (λ (s : List Item). s ++ Asked Close ∷ []) (
+      so_far.asked ∙ ap (λ (s : List ℕ). items_of_lines (lines_of s)) (sym whole)
+      ∙ sym (cond-false (nat_lt limit (length script)) (cut_items limit script) _ (le-ltb limit (length script) short))
+      )
 
-pair_at_seam : (text : List ℕ) (at : Addr) → IsPair text at → text ≡ decimal at.cyl ++ 32 ∷ decimal at.head
-pair_at_seam text at e = e ∙ append_assoc (decimal at.cyl) (32 ∷ []) (decimal at.head)
+  -- the script up to its limit
+  pub reads_limit : HasNoFeed (take left rest) → left < length rest
+      → ((items ++ Misread misreading.ScriptTooLong ∷ []) ++ Asked Close ∷ [] ≡ script_items limit script) × (limit < length script)
+  reads_limit free more =
+      let stops = stops_here (omega (arith, more)) in
+      let long : limit < length script = omega (arith, so_far.allowed, ap length so_far.split, length-append so_far.consumed rest, more) in
+      let front : take limit script ≡ so_far.consumed ++ take left rest =
+      ap (λ (n : ℕ). take n script) (sym so_far.allowed) ∙ ap (take (length so_far.consumed + left)) so_far.split
+      ∙ take-append-add so_far.consumed rest left in
+      let lines : ended_lines (take limit script) ≡ lines_of so_far.consumed =
+      ap ended_lines front ∙ ended_unfed so_far.consumed (take left rest) stops free in
+      let items_are : items ≡ items_of_lines (ended_lines (take limit script)) = so_far.asked ∙ ap items_of_lines (sym lines) in (
+        ap (λ (s : List Item). s ++ Asked Close ∷ []) (
+            ap (λ (s : List Item). s ++ Misread misreading.ScriptTooLong ∷ []) items_are
+            ∙ sym (cond-true (nat_lt limit (length script)) (cut_items limit script) _ (lt-ltb limit (length script) long))
+            ),
+        long,
+      )
 
-pub pair_splits : (text : List ℕ) (at : Addr) (blank : ℕ) → at.cyl < 2 ^ 16 → IsPair text at
-    → position is_blank text ≡ Some blank → SplitsPair text at blank
-pair_splits text at blank small e found =
-    let there = first_place text (position_or_len is_blank text) (Some blank) found in
-    subst (SplitsPair text at) (sym (there.0 ∙ first_blank-pair text at small e)) (
-    subst (λ (t : List ℕ). SplitsPair t at (length (decimal at.cyl))) (sym (pair_at_seam text at e)) (splits_at_seam at)
-    )
+  -- the lines that ended in what was taken
+  pub reads_taken : (script' : List ℕ) → BreaksOff rest script' → ended ≡ false
+      → (taken : List ℕ) × (script ≡ taken ++ script') × (items ≡ items_of_lines (ended_lines taken))
+  reads_taken script' broken going =
+      let stops : StopsAtLine so_far.consumed = ⊎_elim (λ (h : StopsAtLine so_far.consumed). h)
+      (λ (h : (rest ≡ []) × (ended ≡ true)). absurd (false≢true (sym going ∙ h.1))) so_far.stops in (
+        so_far.consumed ++ broken.0,
+        so_far.split ∙ ap (λ (s : List ℕ). so_far.consumed ++ s) broken.2 ∙ sym (append_assoc so_far.consumed broken.0 script'),
+        so_far.asked ∙ ap items_of_lines (sym (ended_unfed so_far.consumed broken.0 stops broken.1)),
+      )
 
--- a pair has a blank
-pub pair_has_blank : (text : List ℕ) (at : Addr) → at.cyl < 2 ^ 16 → IsPair text at
-    → position is_blank text ≡ None → ⊥
-pair_has_blank text at small e none =
-    let there = first_place text (position_or_len is_blank text) None none in
-    let split = subst (λ (t : List ℕ). SplitsPair t at (length (decimal at.cyl))) (sym (pair_at_seam text at e))
-    (splits_at_seam at) in
-    let first = first_blank-pair text at small e in
-    absurd (omega (arith, there, split.within, first))
+  front_short : length script ≤ limit → (more : List Item) × (items ++ more ≡ script_items limit script)
+  front_short short =
+      let whole : script_items limit script ≡ items_of_lines (lines_of script) ++ Asked Close ∷ [] =
+      ap (λ (s : List Item). s ++ Asked Close ∷ []) (cond-false (nat_lt limit (length script)) (cut_items limit script) _ (le-ltb limit (length script) short)) in
+      ⊎_elim
+      (λ (stops : StopsAtLine so_far.consumed). (
+        items_of_lines (lines_of rest) ++ Asked Close ∷ [],
+        sym (append_assoc items (items_of_lines (lines_of rest)) (Asked Close ∷ []))
+            ∙ ap (λ (s : List Item). s ++ Asked Close ∷ []) (
+            ap (λ (s : List Item). s ++ items_of_lines (lines_of rest)) so_far.asked
+            ∙ sym (flat_map-append line_items (lines_of so_far.consumed) (lines_of rest))
+            ∙ ap items_of_lines (sym (ap lines_of so_far.split ∙ lines-append so_far.consumed rest stops))
+            ) ∙ sym whole,
+      ))
+      (λ (h : (rest ≡ []) × (ended ≡ true)). (Asked Close ∷ [], reads_all h.0))
+      so_far.stops
 
--- a text whose parts round the first blank are numbers is a pair
-pub pair_by_parts : (text : List ℕ) (blank cylinder head : ℕ) → position is_blank text ≡ Some blank
-    → take blank text ≡ decimal cylinder → take (length text - (blank + 1)) (drop (blank + 1) text) ≡ decimal head
-    → text ≡ decimal cylinder ++ 32 ∷ [] ++ decimal head
-pair_by_parts text blank cylinder head found before after =
-    let there = first_place text (position_or_len is_blank text) (Some blank) found in
-    let e = there.0 in
-    let split : text ≡ take blank text ++ (get_or text blank 32 ∷ drop (blank + 1) text) =
-    rw e (split_at_first is_blank text 32 there.1) in
-    let passes : is_blank (get_or text blank 32) ≡ true = rw e (passes_at_first is_blank text 32 there.1) in
-    let blank_is : get_or text blank 32 ≡ 32 = grind (arith, nat_tests) in
-    let rest : drop (blank + 1) text ≡ decimal head = sym (rest_is (blank + 1) text) ∙ after in
-    let parts : take blank text ++ (get_or text blank 32 ∷ drop (blank + 1) text) ≡ decimal cylinder ++ 32 ∷ decimal head = cc in
-    split ∙ parts ∙ sym (append_assoc (decimal cylinder) (32 ∷ []) (decimal head))
+  front_long : limit < length script → (more : List Item) × (items ++ more ≡ script_items limit script)
+  front_long long =
+      let stops = stops_here (omega (arith, so_far.allowed, ap length so_far.split, length-append so_far.consumed rest, long)) in
+      let front : take limit script ≡ so_far.consumed ++ take left rest =
+      ap (λ (n : ℕ). take n script) (sym so_far.allowed) ∙ ap (take (length so_far.consumed + left)) so_far.split
+      ∙ take-append-add so_far.consumed rest left in
+      let tail = items_of_lines (ended_lines (take left rest)) in
+      let lines : items_of_lines (ended_lines (take limit script)) ≡ items ++ tail =
+      ap items_of_lines (ap ended_lines front ∙ ended-append so_far.consumed (take left rest) stops)
+      ∙ flat_map-append line_items (ended_lines so_far.consumed) (ended_lines (take left rest))
+      ∙ ap (λ (s : List Item). s ++ tail) (ap items_of_lines (ended_all so_far.consumed stops) ∙ sym so_far.asked) in (
+        tail ++ (Misread misreading.ScriptTooLong ∷ Asked Close ∷ []),
+        sym (append_assoc items tail (Misread misreading.ScriptTooLong ∷ Asked Close ∷ []))
+            ∙ ap (λ (s : List Item). s ++ (Misread misreading.ScriptTooLong ∷ Asked Close ∷ [])) (sym lines)
+            ∙ sym (append_assoc (items_of_lines (ended_lines (take limit script))) (Misread misreading.ScriptTooLong ∷ []) (Asked Close ∷ []))
+            ∙ ap (λ (s : List Item). s ++ Asked Close ∷ []) (sym (cond-true (nat_lt limit (length script)) (cut_items limit script) _ (lt-ltb limit (length script) long))),
+      )
 
--- a number ends with a digit
-pub record EndsWithDigit (digits : List ℕ) : Type 0 where
-  pub front : List ℕ
-  pub last : ℕ
-  pub joined : digits ≡ front ++ last ∷ []
-  pub digit : 48 ≤ last
-
-decimal_ends : (n : ℕ) → n < 2 ^ 64 → EndsWithDigit (decimal n)
-decimal_ends = decimal_by_steps (λ _ digits. EndsWithDigit digits)
-    (λ n _. record { front = []; last = 48 + n; joined = refl; digit = omega arith })
-    (λ n ds _ _. record { front = ds; last = 48 + n % 10; joined = refl; digit = omega arith })
-
--- a line feed is no digit, so no line that reads ends with one
-line_has_no_feed : (at : Addr) (front : List ℕ) → at.head < 2 ^ 16 → front ++ 10 ∷ [] ≡ read_line at → ⊥
-line_has_no_feed at front small e =
-    let end = decimal_ends at.head (omega arith) in
-    let start = codes "read " ++ (decimal at.cyl ++ codes " ") in
-    let joined : read_line at ≡ (start ++ end.front) ++ end.last ∷ [] =
-    ap (λ ds. codes "read " ++ (decimal at.cyl ++ codes " " ++ ds)) end.joined
-    ∙ simp append_assoc in
-    let last = (same_from_push front (start ++ end.front) 10 end.last (e ∙ joined)).1 in
-    absurd (omega (arith, last, end.digit))
-
--- where neither the script nor the script without its line feed is the line of an address
-pub no_script : (script line : List ℕ)
-    → (script ≡ line ++ 10 ∷ []) ⊎ ((script ≡ line) × ((front : List ℕ) → ¬ (script ≡ front ++ 10 ∷ [])))
-    → ((at : Addr) → at.cyl < 2 ^ 16 → at.head < 2 ^ 16 → ¬ (line ≡ read_line at)) → HasNoRead script
-no_script script line cut none at is =
-    let cylinder = is.cylinder in
-    let head = is.head in
-    ⊎_elim
-    (λ (bare : script ≡ read_line at). ⊎_elim
-    (λ (fed : script ≡ line ++ 10 ∷ []). line_has_no_feed at line head (sym fed ∙ bare))
-    (λ (plain : (script ≡ line) × ((front : List ℕ) → ¬ (script ≡ front ++ 10 ∷ []))). none at cylinder head (sym plain.0 ∙ bare))
-    cut)
-    (λ (ended : script ≡ read_line at ++ 10 ∷ []). ⊎_elim
-    (λ (fed : script ≡ line ++ 10 ∷ []). none at cylinder head (append_cancel_right line (read_line at) (10 ∷ []) (sym fed ∙ ended)))
-    (λ (plain : (script ≡ line) × ((front : List ℕ) → ¬ (script ≡ front ++ 10 ∷ []))). plain.1 (read_line at) ended)
-    cut)
-    is.spelled
+  -- what was served is a front of the script's items
+  pub reads_front : (more : List Item) × (items ++ more ≡ script_items limit script)
+  reads_front = ⊎_elim (λ (long : limit < length script). front_long long) (λ (short : length script ≤ limit). front_short short)
+      (cases_lt limit (length script))

@@ -37,3 +37,6 @@ takes_asks a b h = record {
 
 pub takes_file : (a b : World) → OnlyTakes a b → file_of b 0 ≡ file_of a 0
 takes_file a b h = ap (λ (events : List Event). file_now events 0) h.events
+
+pub only_takes_twice : (a b c : World) → OnlyTakes a b → OnlyTakes b c → OnlyTakes a c
+only_takes_twice a b c f g = record { files = g.files ∙ f.files; events = g.events ∙ f.events }

@@ -1,9 +1,11 @@
 pub mod Words
-pub mod Explained
 pub mod Names
-pub mod Run
-pub mod Script
-pub mod Text
-pub mod Opening
-pub mod Put
 pub mod World
+pub mod Lines
+pub mod Opening
+pub mod Lookup
+pub mod Reading
+pub mod Serving
+pub mod Text
+pub mod Run
+pub mod Explained

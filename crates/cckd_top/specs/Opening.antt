@@ -1,67 +1,82 @@
 -- What a disk's files are found to be.
-use Rattle.std.specs.Prelude.{◌≡◌, ◌≤◌, ℕ, ◌==◌, nat_lt, Bool, false, ◌||◌, not, ⊤, if◌then◌else◌, List, [], ◌∷◌, Option, Some, None}
-use Rattle.std.specs.List.{list_any}
-use Rattle.std.specs.Int.{w32}
-use Rattle.std.specs.Str.{bytes_eq}
-use Rattle.cckd_base.specs.declared.geometry.Geometry.{Geometry}
+use Rattle.std.specs.Prelude.{◌≡◌, ◌≤◌, ⊤, ℕ, Bool, false, if◌then◌else◌, List, [], ◌∷◌, length, Option, Some, None}
 use Rattle.cckd_base.specs.declared.geometry.Layout.{Layout}
 use Rattle.cckd_base.specs.declared.fault.HeaderFault.{HeaderFault}
-use Rattle.cckd_base.specs.declared.fault.HeaderFault.TheVariants as fault
-use Rattle.cckd_base.specs.declared.order.Order.TheVariants.{Little}
-use Rattle.cckd_base.specs.Numbers.{number_at}
-use Rattle.cckd_base.specs.Geometry.{track_count, group_count, area_of, is_null_format, IsLayout}
-use Rattle.cckd_base.specs.Header.{base_identifier, identifier, header_geometry, header_sequence, header_null_format, header_fault, is_big, is_outside, layout_of}
-use Rattle.cckd_top.specs.declared.opening.Opening.{Opening}
-use Rattle.cckd_top.specs.declared.opening.Opening.TheVariants.{NotCckd, NotYet, Ready}
+use Rattle.cckd_base.specs.declared.misfit.Misfit.{Misfit}
+use Rattle.cckd_base.specs.Geometry.{area_of, IsLayout}
+use Rattle.cckd_base.specs.Header.{base_identifier, headers_of, header_fault, layout_of}
+use Rattle.cckd_base.specs.Survey.{misfits}
+use Rattle.cckd_tables.specs.Scan.{first_misfit}
+use Rattle.cckd_shelf.specs.declared.fault.Faults.{Faults}
+use Rattle.cckd_shelf.specs.Faults.{Rose}
+use Rattle.cckd_top.specs.declared.halt.Halt.{Halt}
+use Rattle.cckd_top.specs.declared.halt.Halt.TheVariants as halt
 
--- whether the headers of a file of this length are no base's
-unfoldable pub is_other_file : List ℕ → ℕ → Bool
-is_other_file headers len =
-    nat_lt len 1024 || not (list_any (bytes_eq (identifier headers)) (base_identifier ∷ []))
+-- what the files of a disk are found to be
+pub data Opening : Type 0 where
+  bad_header : HeaderFault → Opening
+  has_misfit : Misfit → Opening
+  -- the base is one that is served, and a shadow is there
+  not_yet : Opening
+  ready : Layout → Opening
 
--- whether no image has this geometry
-unfoldable pub is_foreign_geometry : Geometry → Bool
-is_foreign_geometry g =
-    is_outside 1 65536 g.heads || is_outside 1 65536 g.cyls || nat_lt 1048576 (track_count g) || is_outside 37 65024 g.track_size
+-- the first fault of the headers comes first, then the first misfit of the tables, and then a shadow that is there
+abbrev pub opening_by : Option HeaderFault → List Misfit → Bool → Layout → Opening
+opening_by (Some fault) misfits above l = bad_header fault
+opening_by None (misfit ∷ others) above l = has_misfit misfit
+opening_by None [] above l = if above then not_yet else ready l
 
--- whether the counts of little-endian headers are not those of so many groups in a file of this length
-unfoldable pub are_foreign_counts : List ℕ → ℕ → ℕ → Bool
-are_foreign_counts headers groups len =
-    not (number_at Little w32 headers 516 == groups) || not (number_at Little w32 headers 520 == 256)
-    || is_outside (area_of groups) 2147483640 len
+-- the fault that the headers of a base have
+abbrev pub base_fault : List ℕ → Option HeaderFault
+base_fault file = header_fault (base_identifier ∷ []) (headers_of file) (length file)
 
--- the layout that little-endian headers of a base say, where no test of them fails
-unfoldable pub little_layout_of : List ℕ → ℕ → Option Layout
-little_layout_of headers len =
-    if is_foreign_geometry (header_geometry headers) then None
-    else if nat_lt 1 (header_sequence headers) then None
-    else if are_foreign_counts headers (group_count (header_geometry headers)) len then None
-    else if not (is_null_format (header_geometry headers) (header_null_format headers)) then None
-    else Some (layout_of headers)
+-- the layout that the headers of a file say
+abbrev pub file_layout : List ℕ → Layout
+file_layout file = layout_of (headers_of file)
 
--- a file that is no image is told from one that isn't served
-abbrev pub opening_by : Option HeaderFault → Bool → Layout → Opening
-opening_by (Some (fault.NotCckd id)) other l = NotCckd
-opening_by (Some (fault.BadGeometry field value)) other l = NotYet
-opening_by (Some (fault.BadCounts field value)) other l = NotYet
-opening_by (Some (fault.BadNullFormat value)) other l = NotYet
-opening_by None other l = if other then NotYet else Ready l
+-- what the file in slot 0 is found to be, where it is known whether a shadow is there
+abbrev pub opening_of : List ℕ → Bool → Opening
+opening_of file above = opening_by (base_fault file) (misfits (file_layout file) file) above (file_layout file)
 
--- what the headers of a file of this length say, where it is known whether a file above has bytes
-abbrev pub opening_of : List ℕ → ℕ → Bool → Opening
-opening_of headers len above =
-    opening_by (header_fault (base_identifier ∷ []) headers len) (is_big headers || above) (layout_of headers)
-
--- a fact for the layout of files that are served
-abbrev pub IfReady : Opening → (Layout → Type 0) → Type 0
-IfReady NotCckd P = ⊤
-IfReady NotYet P = ⊤
-IfReady (Ready l) P = P l
-
--- a layout that a base of this length may have
-pub record IsServed (l : Layout) (len : ℕ) : Type 0 where
+-- a base of this layout whose tables have no misfit
+pub record IsMounted (l : Layout) (file : List ℕ) : Type 0 where
   pub layout : IsLayout l
-  pub order : l.order ≡ Little
   pub base : l.shadow ≡ false
-  pub area : area_of l.groups ≤ len
-  pub short : len ≤ 2147483640
+  pub area : area_of l.groups ≤ length file
+  pub short : length file ≤ 2147483640
+  pub clean : misfits l file ≡ []
+
+-- the headers of a base have no fault, and say this layout
+pub record HasSoundHeaders (file : List ℕ) (l : Layout) (len : ℕ) : Type 0 where
+  pub sound : base_fault file ≡ None
+  pub says : l ≡ file_layout file
+  pub measured : len ≡ length file
+  pub base : l.shadow ≡ false
+  pub short : length file ≤ 2147483640
+
+-- the layout is that of a base whose headers and tables are sound
+pub record IsBaseOf (file : List ℕ) (l : Layout) : Type 0 where
+  pub sound : base_fault file ≡ None
+  pub says : l ≡ file_layout file
+  pub mounted : IsMounted l file
+
+-- why a survey of a base has no answer
+abbrev pub HasSurveyCause : Type 0 → Layout → List ℕ → Faults → Faults → Halt → Type 0
+HasSurveyCause told l file before after (halt.BadWords n) = ⊥
+HasSurveyCause told l file before after halt.ReadFault = Rose before.reads after.reads
+HasSurveyCause told l file before after halt.SyncFault = ⊥
+HasSurveyCause told l file before after halt.Memory = ⊤
+HasSurveyCause told l file before after (halt.BadHeader fault) = ⊥
+HasSurveyCause told l file before after (halt.HasMisfit misfit) = told → first_misfit (misfits l file) ≡ Some misfit
+HasSurveyCause told l file before after halt.NotYet = ⊥
+
+-- why a base isn't opened
+abbrev pub HasBaseCause : Type 0 → List ℕ → Faults → Faults → Halt → Type 0
+HasBaseCause told file before after (halt.BadWords n) = ⊥
+HasBaseCause told file before after halt.ReadFault = Rose before.reads after.reads
+HasBaseCause told file before after halt.SyncFault = ⊥
+HasBaseCause told file before after halt.Memory = ⊤
+HasBaseCause told file before after (halt.BadHeader fault) = told → base_fault file ≡ Some fault
+HasBaseCause told file before after (halt.HasMisfit misfit) =
+    told → (base_fault file ≡ None) × (first_misfit (misfits (file_layout file) file) ≡ Some misfit)
+HasBaseCause told file before after halt.NotYet = ⊥

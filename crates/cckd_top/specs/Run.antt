@@ -1,146 +1,94 @@
--- Why a run of one read ends as it does.
-use Rattle.std.specs.Prelude.{◌≡◌, ◌≢◌, ◌⊎◌, ◌<◌, ◌≤◌, ℕ, ◌+◌, ◌/◌, ◌==◌, if◌then◌else◌, ◌||◌, ◌&&◌, not, Bool, is_none, IsSome, List, [], length, take, Option, Some, None, unwrap_or, ⊤}
-use Rattle.cckd_base.specs.declared.geometry.Addr.{Addr}
-use Rattle.cckd_base.specs.declared.geometry.Track.{Track}
+-- Why a run of `cckdrun` ends as it does, and what it prints.
+use Rattle.std.specs.Prelude.{◌≡◌, ⊤, ℕ, List, ◌++◌, codes, Some, None}
 use Rattle.cckd_base.specs.declared.geometry.Layout.{Layout}
-use Rattle.cckd_base.specs.declared.entry.L2Entry.{L2Entry}
-use Rattle.cckd_base.specs.declared.misfit.Misfit.{Misfit}
-use Rattle.cckd_base.specs.declared.reply.Reply.{Reply}
-use Rattle.cckd_base.specs.declared.reply.Reply.TheVariants as reply
-use Rattle.cckd_base.specs.declared.reply.Refusal.TheVariants as refusal
-use Rattle.cckd_base.specs.Geometry.{track_at, is_null_format}
-use Rattle.cckd_base.specs.Header.{headers_of}
-use Rattle.cckd_base.specs.Entry.{see_parent, word_at, entry_at, bytes_by_entry, stored_bytes}
-use Rattle.cckd_base.specs.Misfit.{is_misplaced, is_missized, table_misfit, entry_misfit}
-use Rattle.cckd_base.specs.Track.{null_track, track_fault, track_value}
-use Rattle.cckd_base.specs.Answer.{read_reply}
-use Rattle.cckd_shelf.specs.World.{World, held_by}
-use Rattle.cckd_top.specs.declared.ending.Ending.{Ending}
-use Rattle.cckd_top.specs.declared.ending.Ending.TheVariants as ending
-use Rattle.cckd_top.specs.declared.opening.Opening.{Opening}
-use Rattle.cckd_top.specs.declared.opening.Opening.TheVariants as opening
-use Rattle.cckd_top.specs.Opening.{opening_of}
-use Rattle.cckd_top.specs.Script.{IsReadScript, HasNoRead}
+use Rattle.cckd_shelf.specs.declared.fault.Faults.{Faults}
+use Rattle.cckd_shelf.specs.Faults.{Rose}
+use Rattle.cckd_shelf.specs.World.{World, held_by, output_of}
+use Rattle.cckd_script.specs.Text.{Entry, script_text, line}
+use Rattle.cckd_top.specs.declared.halt.Halt.{Halt}
+use Rattle.cckd_top.specs.declared.halt.Halt.TheVariants as halt
+use Rattle.cckd_top.specs.Opening.{Opening, bad_header, has_misfit, not_yet, ready, opening_of}
+use Rattle.cckd_top.specs.Serving.{HasServed, worst, OfTheTaken, OfAFront, OfTheScript}
+use Rattle.cckd_top.specs.Text.{halt_text, halt_status}
 use Rattle.cckd_top.specs.Words.{words_fault, file_word}
-use Rattle.cckd_top.specs.World.{has_shadow}
+use Rattle.cckd_top.specs.World.{has_shadow, IsPrinted, PutsFront}
 
--- what is wrong with the tables of a track, its level-one word first
-unfoldable pub track_misfit : Layout → List ℕ → ℕ → Option Misfit
-track_misfit l file t =
-    elim (table_misfit l (length file) (t / 256) (word_at l file (t / 256))) [
-      | Some misfit ↦ Some misfit
-      | None ↦ entry_misfit l (length file) t (entry_at l file t)
-    ]
+-- the most bytes of a script
+abbrev pub script_limit : ℕ
+script_limit = 1073741824
 
--- whether an entry by itself is none that a base of this length can't have
-abbrev pub is_fitting : Layout → ℕ → L2Entry → Bool
-is_fitting l len e =
-    if e.pos == 0 then is_null_format l.geo e.len
-    else not (e.pos == see_parent) && not (is_misplaced l len e.pos e.len || is_missized e)
+-- how a run ends: before its script, or with the entries that were served of it
+pub data Ending : Type 0 where
+  -- for a cause in the words, in the files or in the device
+  halted : Halt → Ending
+  -- with the reply to the call that closes
+  closed : List Entry → Ending
+  -- where the script couldn't be taken
+  unscripted : List Entry → Ending
+  -- where the output failed in a line of these entries
+  cut : List Entry → Ending
 
--- the entry of a track whose tables have no misfit
-unfoldable pub sound_entry : Layout → List ℕ → ℕ → Option L2Entry
-sound_entry l file t = if is_none (track_misfit l file t) then Some (entry_at l file t) else None
+-- all that a run prints
+abbrev pub ending_text : Ending → List ℕ
+ending_text (halted why) = line (halt_text why)
+ending_text (closed entries) = script_text entries
+ending_text (unscripted entries) = script_text entries ++ line (codes "fault: source")
+ending_text (cut entries) = script_text entries
 
--- an entry that gives a track bytes of a base of this length: a null one, or one of stored bytes
-pub record FitsBase (len : ℕ) (e : L2Entry) : Type 0 where
-  pub null : e.pos ≡ 0 → e.len < 2
-  pub stored : e.pos ≢ 0 → (e.pos + e.len ≤ len) × (0 < e.len)
-  pub here : e.pos ≢ see_parent
-
--- the bytes that an entry gives a track of a base
-abbrev pub bytes_of_entry : Layout → List ℕ → ℕ → L2Entry → List ℕ
-bytes_of_entry l file t e = unwrap_or (bytes_by_entry null_track l file t e) []
-
--- the bytes that the one file shows of a track
-abbrev pub visible : Layout → List ℕ → ℕ → List ℕ
-visible l file t = unwrap_or (stored_bytes null_track l file t) []
-
--- the layered disk's reply to a read of a track whose visible bytes are these. Where the track check finds no
--- fault, a buffer begins with the track's value
-pub record IsReplyTo (l : Layout) (t : ℕ) (bytes : List ℕ) (given : Reply) (buffer : List ℕ) : Type 0 where
-  pub replied : given ≡ read_reply l t bytes
-  pub valued : track_fault l t bytes ≡ None → take (length bytes) buffer ≡ track_value bytes
-
--- the same for a track of the one file
-abbrev pub IsReadOf : Layout → List ℕ → ℕ → Reply → List ℕ → Type 0
-IsReadOf l file t given buffer = IsReplyTo l t (visible l file t) given buffer
-
--- the reply to a read at an address
-abbrev pub ReadsAt : Layout → List ℕ → Option Track → Reply → List ℕ → Type 0
-ReadsAt l file None given value = given ≡ reply.Refused refusal.NoSuchTrack
-ReadsAt l file (Some t) given value = (track_misfit l file t.0 ≡ None) × IsReadOf l file t.0 given value
-
--- a track's value, or a fault of its bytes
-abbrev pub IsAnswered : Reply → Type 0
-IsAnswered (reply.Track len) = ⊤
-IsAnswered (reply.Refused refusal.NoSuchTrack) = ⊥
-IsAnswered (reply.Refused (refusal.Track fault)) = ⊤
-IsAnswered (reply.Refused refusal.ReadFault) = ⊥
-
--- the address has a track, and its tables have a misfit
-abbrev pub HasMisfit : Layout → List ℕ → Option Track → Type 0
-HasMisfit l file None = ⊥
-HasMisfit l file (Some t) = IsSome (track_misfit l file t.0)
-
--- why a read of an address is answered so: a fault of reading has its count, and any other reply is the disk's
-abbrev pub HasReplyCause : Type 0 → Layout → List ℕ → Type 0 → Addr → Reply → List ℕ → Type 0
-HasReplyCause told l file reads_rose at (reply.Track len) buffer =
-    told → ReadsAt l file (track_at l.geo at) (reply.Track len) buffer
-HasReplyCause told l file reads_rose at (reply.Refused refusal.NoSuchTrack) buffer =
-    told → ReadsAt l file (track_at l.geo at) (reply.Refused refusal.NoSuchTrack) buffer
-HasReplyCause told l file reads_rose at (reply.Refused (refusal.Track fault)) buffer =
-    told → ReadsAt l file (track_at l.geo at) (reply.Refused (refusal.Track fault)) buffer
-HasReplyCause told l file reads_rose at (reply.Refused refusal.ReadFault) buffer =
-    reads_rose × IsSome (track_at l.geo at)
-
--- why a run that reads an address ends so
-abbrev pub HasAnswerCause : Type 0 → Layout → List ℕ → Type 0 → Addr → Ending → List ℕ → Type 0
-HasAnswerCause told l file reads_rose at (ending.BadWords n) buffer = ⊥
-HasAnswerCause told l file reads_rose at ending.Unread buffer = ⊥
-HasAnswerCause told l file reads_rose at ending.NotCckd buffer = ⊥
-HasAnswerCause told l file reads_rose at ending.NotYet buffer = told → HasMisfit l file (track_at l.geo at)
-HasAnswerCause told l file reads_rose at ending.Unscripted buffer = ⊥
-HasAnswerCause told l file reads_rose at (ending.Replied place given) buffer =
-    (place ≡ at) × HasReplyCause told l file reads_rose at given buffer
-
--- the script reads no address, or one whose tables have a misfit
-pub data AsksTooMuch (script : List ℕ) (l : Layout) (file : List ℕ) : Type 0 where
-  other_script : HasNoRead script → AsksTooMuch script l file
-  misfit : (at : Addr) → IsReadScript script at → HasMisfit l file (track_at l.geo at) → AsksTooMuch script l file
-
--- why a run on files that are served ends so
-abbrev pub HasServedCause : Type 0 → List ℕ → Layout → List ℕ → Type 0 → Type 0 → Ending → List ℕ → Type 0
-HasServedCause told script l file reads_rose takes_rose (ending.BadWords n) buffer = ⊥
-HasServedCause told script l file reads_rose takes_rose ending.Unread buffer = ⊥
-HasServedCause told script l file reads_rose takes_rose ending.NotCckd buffer = ⊥
-HasServedCause told script l file reads_rose takes_rose ending.NotYet buffer = told → AsksTooMuch script l file
-HasServedCause told script l file reads_rose takes_rose ending.Unscripted buffer = takes_rose
-HasServedCause told script l file reads_rose takes_rose (ending.Replied at given) buffer =
-    (told → IsReadScript script at) × HasReplyCause told l file reads_rose at given buffer
+-- the status that a run ends with, where the output took all that it printed
+abbrev pub ending_status : Ending → ℕ
+ending_status (halted why) = halt_status why
+ending_status (closed entries) = worst entries
+ending_status (unscripted entries) = 7
+ending_status (cut entries) = 7
 
 -- what the files of this name are found to be
 abbrev pub opening_in : World → List ℕ → Opening
-opening_in w file = opening_of (headers_of (held_by w file)) (length (held_by w file)) (has_shadow w file 8)
+opening_in w name = opening_of (held_by w name) (has_shadow w name 8)
 
--- why a run on a file ends so. What the files and the script hold is told, or nothing is said of it
-abbrev pub HasFileCause : Type 0 → World → List ℕ → Type 0 → Type 0 → Ending → List ℕ → Type 0
-HasFileCause told w file reads_rose takes_rose (ending.BadWords n) buffer = ⊥
-HasFileCause told w file reads_rose takes_rose ending.Unread buffer = reads_rose
-HasFileCause told w file reads_rose takes_rose ending.NotCckd buffer = told → opening_in w file ≡ opening.NotCckd
-HasFileCause told w file reads_rose takes_rose ending.NotYet buffer =
-    told → (opening_in w file ≡ opening.NotYet)
-    ⊎ ((l : Layout) × (opening_in w file ≡ opening.Ready l) × AsksTooMuch w.script l (held_by w file))
-HasFileCause told w file reads_rose takes_rose ending.Unscripted buffer =
-    takes_rose × (told → (l : Layout) × (opening_in w file ≡ opening.Ready l))
-HasFileCause told w file reads_rose takes_rose (ending.Replied at given) buffer = (l : Layout)
-    × (told → opening_in w file ≡ opening.Ready l)
-    × (told → IsReadScript w.script at) × HasReplyCause told l (held_by w file) reads_rose at given buffer
+-- Why a run ends before it looks at its script. A fault of the device has its count; a case of the files is told only where
+-- the files, as they were at the start, have it and no case before it; want of memory may come at any time.
+abbrev pub HasHaltCause : Type 0 → World → List ℕ → Faults → Faults → Halt → Type 0
+HasHaltCause told w name before after (halt.BadWords n) = ⊥
+HasHaltCause told w name before after halt.ReadFault = Rose before.reads after.reads
+HasHaltCause told w name before after halt.SyncFault = Rose before.syncs after.syncs
+HasHaltCause told w name before after halt.Memory = ⊤
+HasHaltCause told w name before after (halt.BadHeader fault) = told → opening_in w name ≡ bad_header fault
+HasHaltCause told w name before after (halt.HasMisfit misfit) = told → opening_in w name ≡ has_misfit misfit
+HasHaltCause told w name before after halt.NotYet = told → opening_in w name ≡ not_yet
+
+-- the file mounts, and each reply is the disk's over it or a fault of reading, of which there are no more than the count rose by
+pub record OverTheFile (told : Type 0) (w : World) (name : List ℕ) (before after : Faults) (entries : List Entry) : Type 0 where
+  pub layout : Layout
+  pub opened : told → opening_in w name ≡ ready layout
+  pub served : HasServed told layout (held_by w name) before after entries
+
+-- why a run on a file ends so
+abbrev pub HasFileCause : Type 0 → Type 0 → World → World → List ℕ → Faults → Faults → Ending → Type 0
+HasFileCause tells told w w' name before after (halted why) =
+    HasHaltCause told w name before after why × (tells → w'.script ≡ w.script)
+HasFileCause tells told w w' name before after (closed entries) =
+    OverTheFile told w name before after entries × (tells → OfTheScript script_limit w.script w'.script entries)
+HasFileCause tells told w w' name before after (unscripted entries) =
+    OverTheFile told w name before after entries × (tells → OfTheTaken w.script w'.script entries) × Rose before.takes after.takes
+HasFileCause tells told w w' name before after (cut entries) =
+    OverTheFile told w name before after entries × (tells → OfAFront script_limit w.script entries)
 
 -- why a run ends so: the words are wrong, or they name a file
-pub data HasCause (told : Type 0) (w : World) (words : List (List ℕ)) (reads_rose takes_rose : Type 0) (end : Ending)
-    (buffer : List ℕ) : Type 0 where
-  words_are_bad : (n : ℕ) → words_fault words ≡ Some n → end ≡ ending.BadWords n
-      → HasCause told w words reads_rose takes_rose end buffer
-  file_is_named : words_fault words ≡ None → HasFileCause told w (file_word words) reads_rose takes_rose end buffer
-      → HasCause told w words reads_rose takes_rose end buffer
+pub data HasCause (tells told : Type 0) (w w' : World) (words : List (List ℕ)) (before after : Faults) (end : Ending) : Type 0 where
+  words_are_bad : (n : ℕ) → words_fault words ≡ Some n → end ≡ halted (halt.BadWords n)
+      → HasCause tells told w w' words before after end
+  file_is_named : words_fault words ≡ None → HasFileCause tells told w w' (file_word words) before after end
+      → HasCause tells told w w' words before after end
+
+-- What is put, and the status: the whole text with its own, or a front of it with that of a fault where the count of such
+-- faults rose. A line that was cut is such a front.
+abbrev pub HasPut : Type 0 → World → World → Type 0 → ℕ → Ending → Type 0
+HasPut tells w w' puts_rose status (halted why) =
+    IsPrinted tells w w' (ending_text (halted why)) (ending_status (halted why)) puts_rose status
+HasPut tells w w' puts_rose status (closed entries) =
+    (tells → output_of w'.events ≡ output_of w.events ++ ending_text (closed entries)) × (status ≡ ending_status (closed entries))
+HasPut tells w w' puts_rose status (unscripted entries) =
+    IsPrinted tells w w' (ending_text (unscripted entries)) (ending_status (unscripted entries)) puts_rose status
+HasPut tells w w' puts_rose status (cut entries) =
+    (tells → PutsFront w w' (ending_text (cut entries))) × puts_rose × (status ≡ ending_status (cut entries))

@@ -1,77 +1,76 @@
--- What a run prints.
-use Rattle.std.specs.Prelude.{ℕ, List, [], ◌∷◌, ◌++◌, take, codes, decimal}
-use Rattle.hex.specs.Hex.{encode_lower}
-use Rattle.cckd_base.specs.declared.geometry.Addr.{Addr}
-use Rattle.cckd_base.specs.declared.fault.TrackFault.{TrackFault}
-use Rattle.cckd_base.specs.declared.fault.TrackFault.TheVariants.{TooLong, NoEnd, Compressed, WrongTrack, BadRecord}
-use Rattle.cckd_base.specs.declared.reply.Reply.{Reply}
-use Rattle.cckd_base.specs.declared.reply.Reply.TheVariants as reply
-use Rattle.cckd_base.specs.declared.reply.Refusal.{Refusal}
-use Rattle.cckd_base.specs.declared.reply.Refusal.TheVariants as refusal
-use Rattle.cckd_top.specs.declared.ending.Ending.{Ending}
-use Rattle.cckd_top.specs.declared.ending.Ending.TheVariants as ending
+-- What a run prints beside the replies to its script.
+use Rattle.std.specs.Prelude.{ℕ, List, ◌++◌, codes, decimal}
+use Rattle.cckd_base.specs.declared.entry.L2Entry.{L2Entry}
+use Rattle.cckd_base.specs.declared.space.Extent.{Extent}
+use Rattle.cckd_base.specs.declared.space.Owner.{Owner}
+use Rattle.cckd_base.specs.declared.space.Owner.TheVariants.{Nobody, Header, Table, Track}
+use Rattle.cckd_base.specs.declared.misfit.Misfit.{Misfit}
+use Rattle.cckd_base.specs.declared.misfit.Misfit.TheVariants.{BadTable, BadEntry, Overlap, ParentInBase}
+use Rattle.cckd_base.specs.declared.fault.GeoField.{GeoField}
+use Rattle.cckd_base.specs.declared.fault.GeoField.TheVariants as geo
+use Rattle.cckd_base.specs.declared.fault.CountField.{CountField}
+use Rattle.cckd_base.specs.declared.fault.CountField.TheVariants as counted
+use Rattle.cckd_base.specs.declared.fault.HeaderFault.{HeaderFault}
+use Rattle.cckd_base.specs.declared.fault.HeaderFault.TheVariants.{NotCckd, BadGeometry, BadCounts, BadNullFormat}
+use Rattle.cckd_top.specs.declared.halt.Halt.{Halt}
+use Rattle.cckd_top.specs.declared.halt.Halt.TheVariants as halt
 
--- two numbers with a blank between them
-abbrev pub pair_text : ℕ → ℕ → List ℕ
-pair_text a b = decimal a ++ codes " " ++ decimal b
+abbrev pub geometry_field : GeoField → List ℕ
+geometry_field geo.Heads = codes "heads"
+geometry_field geo.Cylinders = codes "cylinders"
+geometry_field geo.Tracks = codes "tracks"
+geometry_field geo.TrackSize = codes "track-size"
+geometry_field geo.Sequence = codes "sequence"
 
--- bytes as two digits each, and `-` for no bytes
-abbrev pub hex_text : List ℕ → List ℕ
-hex_text [] = codes "-"
-hex_text (b ∷ bytes) = encode_lower (b ∷ bytes)
+abbrev pub count_field : CountField → List ℕ
+count_field counted.LevelOne = codes "level-one"
+count_field counted.LevelTwo = codes "level-two"
+count_field counted.Length = codes "length"
 
-abbrev pub track_fault_text : TrackFault → List ℕ
-track_fault_text (TooLong len max) = codes "track too long " ++ decimal len ++ codes " over " ++ decimal max
-track_fault_text (NoEnd at) = codes "no end at " ++ decimal at
-track_fault_text (Compressed byte) = codes "compressed " ++ decimal byte
-track_fault_text (WrongTrack cyl head) = codes "wrong track " ++ pair_text cyl head
-track_fault_text (BadRecord at) = codes "bad record at " ++ decimal at
+-- what is wrong with the headers of a file
+abbrev pub header_fault_text : HeaderFault → List ℕ
+header_fault_text (NotCckd id) = codes "not a CCKD image"
+header_fault_text (BadGeometry field value) = codes "bad geometry " ++ geometry_field field ++ codes " " ++ decimal value
+header_fault_text (BadCounts field value) = codes "bad count " ++ count_field field ++ codes " " ++ decimal value
+header_fault_text (BadNullFormat value) = codes "bad null format " ++ decimal value
 
-abbrev pub refusal_text : Refusal → List ℕ
-refusal_text refusal.NoSuchTrack = codes "refused: no such track"
-refusal_text (refusal.Track fault) = codes "refused: " ++ track_fault_text fault
-refusal_text refusal.ReadFault = codes "fault: read"
+-- whom a space belongs to
+abbrev pub owner_text : Owner → List ℕ
+owner_text Nobody = codes "nobody"
+owner_text Header = codes "header"
+owner_text (Table group) = codes "table " ++ decimal group
+owner_text (Track t) = codes "track " ++ decimal t
 
--- the line of a reply to a read at an address, where the track's value is these bytes
-abbrev pub reply_text : Addr → Reply → List ℕ → List ℕ
-reply_text at (reply.Track len) value =
-    codes "track " ++ pair_text at.cyl at.head ++ codes " " ++ decimal len ++ codes " " ++ hex_text value
-reply_text at (reply.Refused why) value = refusal_text why
+-- a space, with its length
+abbrev pub space_text : Extent → List ℕ
+space_text e = owner_text e.owner ++ codes " at " ++ decimal e.pos ++ codes " for " ++ decimal e.size
 
--- a line with its line feed
-abbrev pub line : List ℕ → List ℕ
-line text = text ++ 10 ∷ []
+abbrev pub entry_fields : L2Entry → List ℕ
+entry_fields e = codes " at " ++ decimal e.pos ++ codes " length " ++ decimal e.len ++ codes " size " ++ decimal e.size
 
--- all that a run prints
-abbrev pub ending_text : Ending → List ℕ → List ℕ
-ending_text (ending.BadWords n) value = line (codes "bad words at " ++ decimal n)
-ending_text ending.Unread value = line (codes "fault: read")
-ending_text ending.NotCckd value = line (codes "refused: slot 0 not a CCKD image")
-ending_text ending.NotYet value = line (codes "refused: not built yet")
-ending_text ending.Unscripted value = line (codes "fault: source")
-ending_text (ending.Replied at reply) value = line (reply_text at reply value) ++ line (codes "closed")
+-- what is wrong with the tables of a file
+abbrev pub misfit_text : Misfit → List ℕ
+misfit_text (BadTable group pos) = codes "bad table group " ++ decimal group ++ codes " at " ++ decimal pos
+misfit_text (BadEntry t e) = codes "bad entry track " ++ decimal t ++ entry_fields e
+misfit_text (Overlap first second) = codes "overlap " ++ space_text first ++ codes " and " ++ space_text second
+misfit_text (ParentInBase owner) = codes "parent in base " ++ owner_text owner
 
--- the status that a run ends with, where the sink took all that it printed
-abbrev pub reply_status : Reply → ℕ
-reply_status (reply.Track len) = 0
-reply_status (reply.Refused refusal.NoSuchTrack) = 1
-reply_status (reply.Refused (refusal.Track fault)) = 1
-reply_status (reply.Refused refusal.ReadFault) = 7
+-- why a run ends before it looks at its script
+abbrev pub halt_text : Halt → List ℕ
+halt_text (halt.BadWords n) = codes "bad words at " ++ decimal n
+halt_text halt.ReadFault = codes "fault: read"
+halt_text halt.SyncFault = codes "fault: sync"
+halt_text halt.Memory = codes "no memory"
+halt_text (halt.BadHeader fault) = codes "refused: slot 0 " ++ header_fault_text fault
+halt_text (halt.HasMisfit misfit) = codes "refused: slot 0 " ++ misfit_text misfit
+halt_text halt.NotYet = codes "refused: not built yet"
 
-abbrev pub ending_status : Ending → ℕ
-ending_status (ending.BadWords n) = 2
-ending_status ending.Unread = 7
-ending_status ending.NotCckd = 3
-ending_status ending.NotYet = 3
-ending_status ending.Unscripted = 7
-ending_status (ending.Replied at reply) = reply_status reply
-
--- the part of a buffer that is printed: the track's value
-abbrev pub shown : Ending → List ℕ → List ℕ
-shown (ending.BadWords n) buffer = []
-shown ending.Unread buffer = []
-shown ending.NotCckd buffer = []
-shown ending.NotYet buffer = []
-shown ending.Unscripted buffer = []
-shown (ending.Replied at (reply.Track len)) buffer = take len buffer
-shown (ending.Replied at (reply.Refused why)) buffer = []
+-- and the status that goes with it
+abbrev pub halt_status : Halt → ℕ
+halt_status (halt.BadWords n) = 2
+halt_status halt.ReadFault = 7
+halt_status halt.SyncFault = 7
+halt_status halt.Memory = 8
+halt_status (halt.BadHeader fault) = 3
+halt_status (halt.HasMisfit misfit) = 3
+halt_status halt.NotYet = 3

@@ -1,19 +1,20 @@
 -- What a run that only reads may do to the outside.
-use Rattle.std.specs.Prelude.{◌≡◌, ◌<◌, ℕ, zero, suc, nat_lt, Bool, false, ◌||◌, List, [], ◌∷◌, ◌++◌, length, take, Some}
+use Rattle.std.specs.Prelude.{◌≡◌, ◌<◌, ℕ, zero, suc, Bool, false, ◌||◌, List, [], ◌∷◌, ◌++◌, take, Some}
 use Rattle.cckd_shelf.specs.declared.op.Op.{Op}
 use Rattle.cckd_shelf.specs.declared.op.Op.TheVariants.{Write, Torn, Cut, Sync, Out}
-use Rattle.cckd_shelf.specs.World.{World, Event, Made, Half, Bound, is_sure, output_of, name_of, held_by}
+use Rattle.cckd_shelf.specs.World.{World, Event, Made, Half, Bound, is_sure, output_of, name_of, file_of, held_by}
+use Rattle.cckd_base.specs.Header.{is_present}
 use Rattle.cckd_top.specs.Names.{slot_name}
 
--- an operation on a file, and none for output
+-- an operation that changes a file, and none for a sync or for output
 abbrev pub on_files : Op → List Op
 on_files (Write slot position bytes) = Write slot position bytes ∷ []
 on_files (Torn slot position bytes) = Torn slot position bytes ∷ []
 on_files (Cut slot len) = Cut slot len ∷ []
-on_files (Sync slot) = Sync slot ∷ []
+on_files (Sync slot) = []
 on_files (Out bytes) = []
 
--- the operations on files, the oldest first
+-- the operations that change files, the oldest first
 abbrev pub file_ops : List Event → List Op
 file_ops [] = []
 file_ops (Made op ∷ earlier) = file_ops earlier ++ on_files op
@@ -45,10 +46,15 @@ pub record OnlyLooks (old new : World) : Type 0 where
 abbrev pub AreNamed : World → List ℕ → ℕ → Type 0
 AreNamed w file slots = (slot : ℕ) → slot < slots → name_of w.events slot ≡ Some (slot_name file slot)
 
--- whether one of the slots 1 to n has a file with bytes
+-- whether one of the slots 1 to n is there
 unfoldable pub has_shadow : World → List ℕ → ℕ → Bool
 has_shadow w file zero = false
-has_shadow w file (suc n) = has_shadow w file n || nat_lt 0 (length (held_by w (slot_name file (suc n))))
+has_shadow w file (suc n) = has_shadow w file n || is_present (held_by w (slot_name file (suc n)))
+
+-- the same of what the slots hold, whatever the names are
+unfoldable pub holds_shadow : World → ℕ → Bool
+holds_shadow w zero = false
+holds_shadow w (suc n) = holds_shadow w n || is_present (file_of w (suc n))
 
 -- a front of the text was put, and nothing else
 pub record PutsFront (old new : World) (text : List ℕ) : Type 0 where

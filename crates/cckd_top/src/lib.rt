@@ -1,28 +1,24 @@
-//! The run of `cckdrun`: words, mounting, one read and the line that it prints.
+//! The run of `cckdrun`: words, mounting, a script of reads and the lines that it prints.
 #![tactic(auto)]
 
-mod ending;
-mod files;
-mod header;
+mod answering;
+mod halt;
+mod lines;
+mod lookup;
+mod mounting;
 mod names;
-mod opening;
 mod plain;
-mod print;
-mod put;
 mod reading;
 mod run;
-mod script;
+mod serving;
+mod shadows;
 mod sink;
-mod source;
 mod status;
-mod tables;
+#[cfg(test)]
+mod tests;
 mod text;
 mod words;
 
-pub use ending::Ending;
-pub use opening::Opening;
+pub use halt::Halt;
 pub use plain::run_plain;
 pub use status::Status;
-
-#[cfg(test)]
-mod tests;

@@ -1,14 +1,14 @@
 //! The names of a disk's files, and the slots that get them.
 
-ghost use Rattle.std.specs.Prelude.{◌≡◌, ◌+◌, ◌<◌, ◌≤◌, nat_lt, length, take, IsTrue, IfOk, OnOk};
+ghost use Rattle.std.specs.Prelude.{◌≡◌, ◌+◌, ◌<◌, ◌≤◌, length, take, IsTrue, OnOk};
 ghost use Rattle.cckd_shelf.specs.Faults.{Fails};
 ghost use Rattle.cckd_shelf.specs.declared.fault.Kind.TheVariants.{Reads};
-ghost use Rattle.cckd_shelf.specs.World.{after_bind, file_of, held_by, IsSure};
+ghost use Rattle.cckd_shelf.specs.World.{after_bind};
 ghost use Rattle.cckd_top.specs.Names.{slot_name};
 ghost use Rattle.cckd_top.specs.Words.{is_file_word};
-ghost use Rattle.cckd_top.specs.World.{OnlyLooks, AreNamed, has_shadow};
+ghost use Rattle.cckd_top.specs.World.{OnlyLooks, AreNamed};
 
-use crate::put::put_bytes;
+use cckd_script::put_bytes;
 use cckd_shelf::{Failed, Slot, Stage};
 use std::str;
 
@@ -47,37 +47,16 @@ fn bind<T: Stage>(stage: &mut T, slot: Slot, file: &str) -> Result<(), Failed>
     }
 }
 
-/// Gives a slot its file, and answers whether the file has bytes.
-fn bind_shadow<T: Stage>(stage: &mut T, slot: Slot, file: &str) -> Result<bool, Failed>
+/// Gives the nine slots their files.
+pub fn bind_all<T: Stage>(stage: &mut T, file: &str) -> Result<(), Failed>
     requires { IsTrue (is_file_word file.now) }
-    ensures named { T.tells → OnOk result (AreNamed (T.world stage.old) file.now slot
-        → AreNamed (T.world stage.new) file.now (slot + 1)) }
-    ensures bytes { T.tells → IsSure (T.world stage.old)
-        → IfOk result (λ some. some ≡ nat_lt 0 (length (held_by (T.world stage.old) (slot_name file.now slot)))) }
+    ensures named { T.tells → OnOk result (AreNamed (T.world stage.new) file.now 9) }
     ensures looks { T.tells → OnlyLooks (T.world stage.old) (T.world stage.new) }
     ensures fails { Fails Reads result (T.faults stage.old) (T.faults stage.new) }
 {
-    bind(stage, slot, file)?;
-    let len = stage.len(slot)?;
-    Ok(len > 0)
-}
-
-/// Gives the nine slots their files, and answers whether a file above slot 0 has bytes.
-pub fn bind_all<T: Stage>(stage: &mut T, base: Slot, file: &str) -> Result<bool, Failed>
-    requires base { base ≡ 0 }
-    requires file { IsTrue (is_file_word file.now) }
-    ensures base { T.tells → OnOk result (file_of (T.world stage.new) 0 ≡ held_by (T.world stage.old) file.now) }
-    ensures shadow { T.tells → IsSure (T.world stage.old)
-        → IfOk result (λ above. above ≡ has_shadow (T.world stage.old) file.now 8) }
-    ensures looks { T.tells → OnlyLooks (T.world stage.old) (T.world stage.new) }
-    ensures fails { Fails Reads result (T.faults stage.old) (T.faults stage.new) }
-{
-    bind(stage, base, file)?;
-    let mut above = false;
-    for number in 1..9u8 {
+    for number in 0..9u8 {
         let slot = Slot::new(number).unwrap();
-        let some = bind_shadow(stage, slot, file)?;
-        above |= some;
+        bind(stage, slot, file)?;
     }
-    Ok(above)
+    Ok(())
 }

@@ -1,17 +1,19 @@
-//! One track of a base, from its tables to its bytes.
+//! One track of a base, from its entry to the reply.
 
-ghost use Rattle.std.specs.Prelude.{◌≡◌, ◌≢◌, ◌+◌, ◌<◌, ◌≤◌, IsTrue, MatchOption, IfOk, length};
-ghost use Rattle.cckd_shelf.specs.Faults.{Fails};
+ghost use Rattle.std.specs.Prelude.{◌≡◌, ◌+◌, ◌<◌, ◌≤◌, IfOk, length};
+ghost use Rattle.cckd_shelf.specs.Faults.{Fails, NoneFell};
 ghost use Rattle.cckd_shelf.specs.declared.fault.Kind.TheVariants.{Reads};
 ghost use Rattle.cckd_shelf.specs.World.{IsSure, file_of};
-ghost use Rattle.cckd_base.specs.Numbers.{bytes_at};
 ghost use Rattle.cckd_base.specs.Geometry.{track_count, IsLayout, IsNullFormat};
-ghost use Rattle.cckd_base.specs.Track.{null_track, track_fault, track_value};
-ghost use Rattle.cckd_base.specs.Answer.{read_reply};
-ghost use Rattle.cckd_top.specs.Opening.{IsServed};
-ghost use Rattle.cckd_top.specs.Run.{IsReplyTo, IsAnswered, FitsBase, bytes_of_entry};
+ghost use Rattle.cckd_base.specs.Entry.{entry_at};
+ghost use Rattle.cckd_base.specs.Track.{null_track, track_value};
+ghost use Rattle.cckd_script.specs.Text.{answered_length, answered_bytes};
+ghost use Rattle.cckd_top.specs.Opening.{IsMounted};
+ghost use Rattle.cckd_top.specs.Reading.{IsReplyTo, AnswersRead, visible, reply_faults, IsTrackReply, IsReadReply};
+ghost use Rattle.cckd_top.specs.Serving.{RoseBy};
 
-use cckd_base::{L2Entry, Layout, Refusal, Reply, Track, Unit};
+use crate::lookup::entry_of;
+use cckd_base::{Addr, L2Entry, Layout, Refusal, Reply, Track, Unit};
 use cckd_shelf::{Failed, Slot, Stage};
 use cckd_track::Ckd;
 
@@ -21,7 +23,8 @@ fn null_reply(l: &Layout, t: Track, format: u8, out: &mut [u8]) -> Reply
     requires track { t.0 < track_count l.now.geo }
     requires format { IsNullFormat l.now.geo format }
     requires room { 65536 ≤ length out.old }
-    ensures { IsReplyTo l.now t.0 (null_track l.now t.0 format) result out.new }
+    ensures reply { IsReplyTo l.now t.0 (null_track l.now t.0 format) result (answered_bytes result out.new) }
+    ensures short { IsTrackReply result }
 {
     let len = Ckd::null(l, t, format, out);
     Reply::Track {
@@ -42,7 +45,9 @@ fn stored_reply(l: &Layout, t: Track, bytes: &mut [u8]) -> Reply
     requires layout { IsLayout l.now }
     requires track { t.0 < track_count l.now.geo }
     requires length { length bytes.old ≤ 65535 }
-    ensures { IsReplyTo l.now t.0 bytes.old result bytes.new }
+    ensures reply { IsReplyTo l.now t.0 bytes.old result (answered_bytes result bytes.new) }
+    ensures short { IsTrackReply result }
+    ensures within { answered_length result ≤ length bytes.new }
 {
     match Ckd::check(l, t, bytes) {
         Ok(()) => {
@@ -55,32 +60,87 @@ fn stored_reply(l: &Layout, t: Track, bytes: &mut [u8]) -> Reply
     }
 }
 
+/// The format of a null entry, of which there are two.
+fn format_of(entry: L2Entry) -> u8
+    ensures known { result < 2 }
+    ensures value { entry.len < 2 → result ≡ entry.len }
+{
+    if entry.len == 0 { 0 } else { 1 }
+}
+
 /// The reply to a read of a track with this entry, whose value goes to the front of `out`.
-pub fn reply_of<T: Stage>(
+fn reply_by<T: Stage>(
     stage: &mut T,
     base: Slot,
     l: &Layout,
-    len: u64,
     t: Track,
     entry: L2Entry,
     out: &mut [u8],
 ) -> Result<Reply, Failed>
     requires base { base ≡ 0 }
-    requires served { IsServed l.now len }
+    requires layout { IsLayout l.now }
+    requires mounted { T.tells → IsSure (T.world stage.old) → IsMounted l.now (file_of (T.world stage.old) 0) }
     requires track { t.0 < track_count l.now.geo }
-    requires fits { FitsBase len entry }
-    requires length { T.tells → IsSure (T.world stage.old) → len ≡ length (file_of (T.world stage.old) 0) }
+    requires entry { T.tells → IsSure (T.world stage.old) → entry ≡ entry_at l.now (file_of (T.world stage.old) 0) t.0 }
     requires room { 65536 ≤ length out.old }
     ensures reply { T.tells → IsSure (T.world stage.old) → IfOk result (λ given.
-        IsReplyTo l.now t.0 (bytes_of_entry l.now (file_of (T.world stage.old) 0) t.0 entry) given out.new) }
-    ensures answered { IfOk result IsAnswered }
+        IsReplyTo l.now t.0 (visible l.now (file_of (T.world stage.old) 0) t.0) given (answered_bytes given out.new)) }
+    ensures short { IfOk result IsTrackReply }
     ensures kept { T.tells → T.world stage.new ≡ T.world stage.old }
     ensures fails { Fails Reads result (T.faults stage.old) (T.faults stage.new) }
+    ensures called { T.calls stage.new ≤ T.calls stage.old + 1 }
 {
     if entry.is_null() {
-        return Ok(null_reply(l, t, entry.len as u8, out));
+        return Ok(null_reply(l, t, format_of(entry), out));
     }
     let bytes = &mut out[..usize::from(entry.len)];
     stage.read(base, u64::from(entry.pos), bytes)?;
     Ok(stored_reply(l, t, bytes))
+}
+
+/// The reply to a read of a track, whose value goes to the front of `out`, by at most three reads.
+fn read_track<T: Stage>(
+    stage: &mut T,
+    base: Slot,
+    l: &Layout,
+    t: Track,
+    out: &mut [u8],
+) -> Result<Reply, Failed>
+    requires base { base ≡ 0 }
+    requires layout { IsLayout l.now }
+    requires mounted { T.tells → IsSure (T.world stage.old) → IsMounted l.now (file_of (T.world stage.old) 0) }
+    requires track { t.0 < track_count l.now.geo }
+    requires room { 65536 ≤ length out.old }
+    ensures reply { T.tells → IsSure (T.world stage.old) → IfOk result (λ given.
+        IsReplyTo l.now t.0 (visible l.now (file_of (T.world stage.old) 0) t.0) given (answered_bytes given out.new)) }
+    ensures short { IfOk result IsTrackReply }
+    ensures kept { T.tells → T.world stage.new ≡ T.world stage.old }
+    ensures fails { Fails Reads result (T.faults stage.old) (T.faults stage.new) }
+    ensures called { T.calls stage.new ≤ T.calls stage.old + 3 }
+{
+    let entry = entry_of(stage, base, l, t)?;
+    reply_by(stage, base, l, t, entry, out)
+}
+
+/// The reply to a read at an address, by at most three reads. A track's value goes to the front of `out`.
+pub fn read_at<T: Stage>(stage: &mut T, base: Slot, l: &Layout, at: Addr, out: &mut [u8]) -> Reply
+    requires base { base ≡ 0 }
+    requires layout { IsLayout l.now }
+    requires mounted { T.tells → IsSure (T.world stage.old) → IsMounted l.now (file_of (T.world stage.old) 0) }
+    requires room { 65536 ≤ length out.old }
+    ensures answers { T.tells → IsSure (T.world stage.old)
+        → AnswersRead l.now (file_of (T.world stage.old) 0) at result (answered_bytes result out.new) }
+    ensures short { IsReadReply result }
+    ensures counted { RoseBy (reply_faults result) (T.faults stage.old).reads (T.faults stage.new).reads }
+    ensures kept { T.tells → T.world stage.new ≡ T.world stage.old }
+    ensures fell { NoneFell (T.faults stage.old) (T.faults stage.new) }
+    ensures called { T.calls stage.new ≤ T.calls stage.old + 3 }
+{
+    let Some(t) = l.geo.track(at) else {
+        return Reply::Refused(Refusal::NoSuchTrack);
+    };
+    match read_track(stage, base, l, t, out) {
+        Ok(reply) => reply,
+        Err(Failed) => Reply::Refused(Refusal::ReadFault),
+    }
 }

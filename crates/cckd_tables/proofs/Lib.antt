@@ -1,0 +1,7 @@
+pub mod MeetLemmas
+pub mod OrderLemmas
+pub mod ItemLemmas
+pub mod SurveyLemmas
+pub mod FormedLemmas
+pub mod FileLemmas
+pub mod ReadLemmas

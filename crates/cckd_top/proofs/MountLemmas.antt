@@ -1,0 +1,123 @@
+-- Steps of a mounting.
+use Rattle.std.proofs.Common.{◌≡◌, ℕ, Bool, true, false, IsTrue, List, [], ◌∷◌, Option, Some, None, unwrap_or, Result, Ok, Err, IfErr, refl, sym, ◌∙◌, ap, subst, arith, append-nil}
+use Rattle.cckd_base.specs.declared.geometry.Layout.{Layout}
+use Rattle.cckd_base.specs.declared.fault.HeaderFault.{HeaderFault}
+use Rattle.cckd_base.specs.declared.misfit.Misfit.{Misfit}
+use Rattle.cckd_base.specs.Survey.{misfits}
+use Rattle.cckd_tables.specs.Scan.{first_misfit}
+use Rattle.cckd_shelf.specs.declared.fault.Faults.{Faults}
+use Rattle.cckd_shelf.specs.Faults.{NoneFell}
+use Rattle.cckd_shelf.specs.World.{World, IsSure, IsTied, file_of, held_by, output_of, after_sync}
+use Rattle.cckd_top.specs.declared.halt.Halt.{Halt}
+use Rattle.cckd_top.specs.declared.halt.Halt.TheVariants as halt
+use Rattle.cckd_top.specs.Opening.{bad_header, has_misfit, not_yet, ready, opening_by, opening_of, base_fault, file_layout, IsBaseOf, HasBaseCause}
+use Rattle.cckd_top.specs.Run.{HasHaltCause, opening_in}
+use Rattle.cckd_top.specs.World.{OnlyLooks, AreNamed, file_ops, has_shadow, holds_shadow}
+use Rattle.cckd_top.proofs.WorldLemmas.{only_looks_twice}
+use Rattle.cckd_top.proofs.ShadowLemmas.{shadows_are_held}
+
+sync_looks : (w : World) (slot : ℕ) → OnlyLooks w (after_sync w slot)
+sync_looks w slot = record {
+  asks = record {
+    keeps = record { files = refl; untouched = append-nil (file_ops w.events); sure = refl };
+    silent = append-nil (output_of w.events);
+  };
+  script = refl;
+}
+
+-- The files have the names of a disk, and nothing else happened to them: slot 0 holds what the name held, and the slots above its shadows.
+pub record IsNamedDisk (tells : Type 0) (old now : World) (name : List ℕ) : Type 0 where
+  pub looks : tells → OnlyLooks old now
+  pub named : tells → AreNamed now name 9
+
+-- after the base was synced
+pub after_the_sync : (tells : Type 0) (old bound synced : World) (name : List ℕ) (slot : ℕ) → (tells → OnlyLooks old bound)
+    → (tells → AreNamed bound name 9) → (tells → synced ≡ after_sync bound slot) → IsNamedDisk tells old synced name
+after_the_sync tells old bound synced name slot looks named sync = record {
+  looks = λ told. only_looks_twice old bound synced (looks told) (subst (OnlyLooks bound) (sym (sync told)) (sync_looks bound slot));
+  named = λ told. subst (λ (w : World). AreNamed w name 9) (sym (sync told)) (named told);
+}
+
+pub same_disk : (tells : Type 0) (old now then : World) (name : List ℕ) → IsNamedDisk tells old now name → (tells → then ≡ now)
+    → IsNamedDisk tells old then name
+same_disk tells old now then name disk kept = record {
+  looks = λ told. subst (OnlyLooks old) (sym (kept told)) (disk.looks told);
+  named = λ told. subst (λ (w : World). AreNamed w name 9) (sym (kept told)) (disk.named told);
+}
+
+module _ (tells : Type 0) (old now : World) (name : List ℕ) (disk : IsNamedDisk tells old now name) (tied : tells → IsTied now) where
+  -- the base is the file of the name
+  pub base_is : tells → file_of now 0 ≡ held_by old name
+  base_is told =
+      sym ((tied told).named 0 name (disk.named told 0 (omega arith)))
+      ∙ ap (λ (files : List ℕ → Option (List ℕ)). unwrap_or (files name) []) (disk.looks told).asks.keeps.files
+
+  pub shadow_is : tells → holds_shadow now 8 ≡ has_shadow old name 8
+  shadow_is told = shadows_are_held now old name 8 (omega arith) (disk.named told) (tied told) (sym (disk.looks told).asks.keeps.files)
+
+  pub sure_still : tells → IsSure old → IsSure now
+  sure_still told sure = subst IsTrue (sym (disk.looks told).asks.keeps.sure) sure
+
+opening_ready_by : (f : Option HeaderFault) (ms : List Misfit) (above : Bool) (l : Layout) → f ≡ None → ms ≡ [] → above ≡ false
+    → opening_by f ms above l ≡ ready l
+opening_ready_by None [] false l e m a = refl
+opening_ready_by None [] true l e m a = absurd (cc a)
+opening_ready_by None (m ∷ ms) above l e n a = absurd (cc n)
+opening_ready_by (Some fault) ms above l e m a = absurd (cc e)
+
+opening_not_yet_by : (f : Option HeaderFault) (ms : List Misfit) (above : Bool) (l : Layout) → f ≡ None → ms ≡ [] → above ≡ true
+    → opening_by f ms above l ≡ not_yet
+opening_not_yet_by None [] true l e m a = refl
+opening_not_yet_by None [] false l e m a = absurd (cc a)
+opening_not_yet_by None (m ∷ ms) above l e n a = absurd (cc n)
+opening_not_yet_by (Some fault) ms above l e m a = absurd (cc e)
+
+opening_header_by : (f : Option HeaderFault) (ms : List Misfit) (above : Bool) (l : Layout) (fault : HeaderFault) → f ≡ Some fault
+    → opening_by f ms above l ≡ bad_header fault
+opening_header_by None ms above l fault e = absurd (cc e)
+opening_header_by (Some other) ms above l fault e = cc e
+
+opening_misfit_by : (f : Option HeaderFault) (ms : List Misfit) (above : Bool) (l : Layout) (misfit : Misfit) → f ≡ None
+    → first_misfit ms ≡ Some misfit → opening_by f ms above l ≡ has_misfit misfit
+opening_misfit_by None [] above l misfit e m = absurd (cc m)
+opening_misfit_by None (other ∷ ms) above l misfit e m = cc m
+opening_misfit_by (Some fault) ms above l misfit e m = absurd (cc e)
+
+no_misfits : (file : List ℕ) (l : Layout) → IsBaseOf file l → misfits (file_layout file) file ≡ []
+no_misfits file l is = subst (λ (x : Layout). misfits x file ≡ []) is.says is.mounted.clean
+
+pub opens : (w : World) (name file : List ℕ) (l : Layout) (above : Bool) → file ≡ held_by w name → IsBaseOf file l
+    → above ≡ has_shadow w name 8 → above ≡ false → opening_in w name ≡ ready l
+opens w name file l above same is found none =
+    subst (λ (f : List ℕ). opening_of f (has_shadow w name 8) ≡ ready l) same
+    (opening_ready_by (base_fault file) (misfits (file_layout file) file) (has_shadow w name 8) (file_layout file) is.sound (no_misfits file l is) (sym found ∙ none)
+    ∙ ap ready (sym is.says))
+
+pub opens_not_yet : (w : World) (name file : List ℕ) (l : Layout) (above : Bool) → file ≡ held_by w name → IsBaseOf file l
+    → above ≡ has_shadow w name 8 → above ≡ true → opening_in w name ≡ not_yet
+opens_not_yet w name file l above same is found some =
+    subst (λ (f : List ℕ). opening_of f (has_shadow w name 8) ≡ not_yet) same
+    (opening_not_yet_by (base_fault file) (misfits (file_layout file) file) (has_shadow w name 8) (file_layout file) is.sound (no_misfits file l is) (sym found ∙ some))
+
+-- why the base isn't opened is why the disk isn't mounted
+halts_by_base : (told later : Type 0) (w : World) (name file : List ℕ) (first before after : Faults) (why : Halt)
+    → (told → later) → (told → file ≡ held_by w name) → NoneFell first before → HasBaseCause later file before after why
+    → HasHaltCause told w name first after why
+halts_by_base told later w name file first before after (halt.BadWords n) knows same fell cause = cause
+halts_by_base told later w name file first before after halt.ReadFault knows same fell cause = omega (arith, cause, fell.reads)
+halts_by_base told later w name file first before after halt.SyncFault knows same fell cause = absurd cause
+halts_by_base told later w name file first before after halt.Memory knows same fell cause = tt
+halts_by_base told later w name file first before after (halt.BadHeader fault) knows same fell cause = λ t.
+    subst (λ (f : List ℕ). opening_of f (has_shadow w name 8) ≡ bad_header fault) (same t)
+    (opening_header_by (base_fault file) (misfits (file_layout file) file) (has_shadow w name 8) (file_layout file) fault (cause (knows t)))
+halts_by_base told later w name file first before after (halt.HasMisfit misfit) knows same fell cause = λ t.
+    subst (λ (f : List ℕ). opening_of f (has_shadow w name 8) ≡ has_misfit misfit) (same t)
+    (opening_misfit_by (base_fault file) (misfits (file_layout file) file) (has_shadow w name 8) (file_layout file) misfit (cause (knows t)).0 (cause (knows t)).1)
+halts_by_base told later w name file first before after halt.NotYet knows same fell cause = absurd cause
+
+pub halts : {T : Type 0} (told later : Type 0) (w : World) (name file : List ℕ) (first before after : Faults) (r : Result T Halt)
+    → (told → later) → (told → file ≡ held_by w name) → NoneFell first before → IfErr r (HasBaseCause later file before after)
+    → IfErr r (HasHaltCause told w name first after)
+halts told later w name file first before after (Ok x) knows same fell cause = tt
+halts told later w name file first before after (Err why) knows same fell cause =
+    halts_by_base told later w name file first before after why knows same fell cause

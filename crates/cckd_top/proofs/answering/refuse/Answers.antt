@@ -1,0 +1,26 @@
+use Rattle.std.proofs.Common.{refl}
+use Rattle.cckd_script.specs.Text.{misread}
+use Rattle.cckd_top.proofs.ServingLemmas.{one_served, one_cut, line_is, none_fell_same, rose_by_none}
+use Rattle.cckd_top.proofs.answering.refuse.Goals as goal
+
+pub returns : goal.returns
+returns g c =
+    let w = g.T.Shelf.world c.args.stage.now in
+    let f = g.T.Shelf.faults c.args.stage.now in
+    one_served g.T.Shelf.tells _ c.args.l.now _ w w (g.T.Shelf.world c.put_all.new.stage)
+    _ f _ (misread c.args.why) c.put_all.result _
+    (λ told. tt) (rose_by_none f.reads) (λ told. refl) (none_fell_same f)
+    (line_is c.print_misreading-end.result _ c.args.output.now c.print_misreading-end.new.line c.print_misreading-end.ensures.printed)
+    c.put_all.ensures.files c.put_all.ensures.file c.put_all.ensures.script c.put_all.ensures.fails 1 refl
+    c.in-Ok.ensures.whole
+
+pub returns-in_default : goal.returns-in_default
+returns-in_default g c =
+    let w = g.T.Shelf.world c.args.stage.now in
+    let f = g.T.Shelf.faults c.args.stage.now in
+    one_cut g.T.Shelf.tells _ c.args.l.now _ w w (g.T.Shelf.world c.put_all.new.stage)
+    _ f _ (misread c.args.why) c.put_all.result _
+    (λ told. tt) (rose_by_none f.reads) (λ told. refl) (none_fell_same f)
+    (line_is c.print_misreading-end.result _ c.args.output.now c.print_misreading-end.new.line c.print_misreading-end.ensures.printed)
+    c.put_all.ensures.files c.put_all.ensures.file c.put_all.ensures.script c.put_all.ensures.fails (record {})
+    c.in_default.ensures.front c.in_default.ensures.fails.rose

@@ -1,0 +1,13 @@
+use Rattle.std.proofs.Common.{◌≡◌, take, subst, sym}
+use Rattle.cckd_shelf.specs.World.{World, IsSure, file_of}
+use Rattle.cckd_top.proofs.ShadowLemmas.{there_by_front}
+use Rattle.cckd_top.proofs.shadows.is_there.Goals as goal
+
+pub returns-clause-there : goal.returns-clause-there
+returns-clause-there g c = λ told sure.
+    let w = g.T.Shelf.world c.args.stage.now in
+    let kept = c.in_ok-len.ensures.kept told in
+    there_by_front (file_of w c.args.slot) c.read.new.into c.are_zeros.result c.in_ok-len.len (c.in_ok-len.ensures.len told sure)
+    c.if-len-lt512.false
+    (subst (λ (v : World). c.read.new.into ≡ take 512 (file_of v c.args.slot)) kept (c.in_ok-read.ensures.bytes told (subst IsSure (sym kept) sure)))
+    c.are_zeros.ensures

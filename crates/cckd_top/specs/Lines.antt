@@ -1,0 +1,102 @@
+-- A script, line by line, as it is taken.
+use Rattle.std.specs.Prelude.{◌≡◌, ◌<◌, ◌≤◌, ℕ, ◌+◌, ◌-◌, ◌==◌, nat_lt, if◌then◌else◌, Bool, true, ⊤, List, [], ◌∷◌, ◌++◌, length, take, drop}
+use Rattle.cckd_script.specs.Lines.{HasNoFeed}
+use Rattle.cckd_top.specs.declared.lines.Place.{Place}
+use Rattle.cckd_top.specs.declared.lines.Next.{Next}
+use Rattle.cckd_top.specs.declared.lines.Next.TheVariants as next
+
+-- whether a byte ends a line
+abbrev pub is_feed : ℕ → Bool
+is_feed b = b == 10
+
+-- the bytes of a room that were taken and belong to no line yet that was handed out
+abbrev pub pending : List ℕ → Place → List ℕ
+pending room place = take (place.end - place.start) (drop place.start room)
+
+-- how many bytes from the start of the next line on are within the script's limit
+abbrev pub allowance : Place → ℕ
+allowance place = place.left + (place.end - place.start)
+
+-- a place within a room
+pub record IsPlace (room : List ℕ) (place : Place) : Type 0 where
+  pub order : place.start ≤ place.end
+  pub within : place.end ≤ length room
+
+-- a text begins with a line: its line feed follows, or the text ends with it
+pub data BeginsWith (line text rest : List ℕ) (ended : Bool) : Type 0 where
+  fed : HasNoFeed line → text ≡ line ++ 10 ∷ rest → BeginsWith line text rest ended
+  last : HasNoFeed line → text ≡ line → rest ≡ [] → ended ≡ true → BeginsWith line text rest ended
+
+-- a feed stands at this place, and none before it
+pub record IsFirstFeed (text : List ℕ) (at : ℕ) : Type 0 where
+  pub within : at < length text
+  pub before : HasNoFeed (take at text)
+  pub split : text ≡ take at text ++ 10 ∷ drop (at + 1) text
+
+-- another place, behind the same beginning, to which more of the script was taken, or where the script has ended
+pub record Grows (old new : Place) : Type 0 where
+  pub start : new.start ≡ old.start
+  pub shared : new.end + new.left ≡ old.end + old.left
+  pub left : new.left ≤ old.left
+  pub more : new.left ≡ old.left → new.ended ≡ true
+
+-- at its end nothing of the script is left
+abbrev pub IsAtEnd : Place → List ℕ → Type 0
+IsAtEnd place script = place.ended ≡ true → script ≡ []
+
+-- what was taken more of a script stands behind what was pending
+pub record TakesMore (room room' : List ℕ) (place place' : Place) (script script' : List ℕ) : Type 0 where
+  pub rest : pending room' place' ++ script' ≡ pending room place ++ script
+  pub ended : IsAtEnd place' script'
+
+-- the next line of a text, from which so many bytes on are within the limit, and what is behind it
+pub record IsLine (line text rest : List ℕ) (before after : ℕ) (ended : Bool) : Type 0 where
+  pub begins : BeginsWith line text rest ended
+  pub some : 0 < length text
+  pub shared : before + length rest ≡ after + length text
+
+-- what comes next in a text, and what is behind it
+abbrev pub IsNext : List ℕ → List ℕ → List ℕ → ℕ → Place → Next → Type 0
+IsNext room text rest before place (next.Line start end) =
+    IsLine (take (end - start) (drop start room)) text rest before (allowance place) place.ended × (end - start ≤ 131072)
+IsNext room text rest before place next.LineTooLong =
+    (line : List ℕ) × IsLine line text rest before (allowance place) place.ended × (131072 < length line)
+IsNext room text rest before place next.ScriptTooLong = HasNoFeed (take before text) × (before < length text)
+IsNext room text rest before place next.End = (text ≡ []) × (rest ≡ []) × (allowance place ≡ before)
+
+-- the rest of a line that is too long is passed, or the limit
+abbrev pub Passes : List ℕ → List ℕ → ℕ → Place → Next → Type 0
+Passes text rest before place (next.Line start end) = ⊥
+Passes text rest before place next.LineTooLong =
+    (line : List ℕ) × BeginsWith line text rest place.ended × (before + length rest ≡ allowance place + length text)
+Passes text rest before place next.ScriptTooLong = HasNoFeed (take before text) × (before < length text)
+Passes text rest before place next.End = ⊥
+
+-- a line of so many bytes in a room is handed out, or it is too long
+abbrev pub line_next : ℕ → ℕ → Next
+line_next start len = if nat_lt 131072 len then next.LineTooLong else next.Line start (start + len)
+
+-- a line that was found lies in the room
+abbrev pub LiesIn : List ℕ → Next → Type 0
+LiesIn room (next.Line start end) = (start ≤ end) × (end ≤ length room)
+LiesIn room next.LineTooLong = ⊤
+LiesIn room next.ScriptTooLong = ⊤
+LiesIn room next.End = ⊤
+
+-- a line that was found isn't too long
+abbrev pub IsShort : Next → Type 0
+IsShort (next.Line start end) = end - start ≤ 131072
+IsShort next.LineTooLong = ⊤
+IsShort next.ScriptTooLong = ⊤
+IsShort next.End = ⊤
+
+-- after a line fewer bytes are left within the limit
+abbrev pub Advances : ℕ → ℕ → Next → Type 0
+Advances before after (next.Line start end) = after < before
+Advances before after next.LineTooLong = after < before
+Advances before after next.ScriptTooLong = ⊤
+Advances before after next.End = ⊤
+
+-- the beginning of a text was taken up to here, and no line of it ends there
+abbrev pub BreaksOff : List ℕ → List ℕ → Type 0
+BreaksOff text left = (partial : List ℕ) × HasNoFeed partial × (text ≡ partial ++ left)

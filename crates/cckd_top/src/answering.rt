@@ -1,0 +1,139 @@
+//! A line of the script, from its bytes to the line that is printed for it.
+
+ghost use Rattle.std.specs.Prelude.{◌≡◌, ◌≤◌, [], ◌∷◌, length, take};
+ghost use Rattle.cckd_shelf.specs.World.{IsSure, file_of};
+ghost use Rattle.cckd_base.specs.Geometry.{IsLayout};
+ghost use Rattle.cckd_script.specs.Items.{items_of, line_items};
+ghost use Rattle.cckd_script.specs.declared.misread.Item.TheVariants as items;
+ghost use Rattle.cckd_script.specs.Parse.{parsed};
+ghost use Rattle.cckd_top.specs.Opening.{IsMounted};
+ghost use Rattle.cckd_top.specs.Reading.{IsReadReply};
+ghost use Rattle.cckd_top.specs.Serving.{Serves, reply_status};
+
+use crate::reading::read_at;
+use crate::sink::put_all;
+use cckd_base::{Addr, Call, Layout, Refusal, Reply};
+use cckd_script::{
+    LINE_LIMIT, LINE_ROOM, Misreading, What, parse_line, print_misreading, print_reply,
+};
+use cckd_shelf::{Failed, Slot, Stage};
+
+/// The status that a reply asks for.
+fn status_of(reply: Reply) -> u8
+    ensures { result ≡ reply_status reply }
+{
+    match reply {
+        Reply::Track { .. } | Reply::Closed => 0,
+        Reply::Refused(Refusal::NoSuchTrack | Refusal::Track(_)) => 1,
+        Reply::Refused(Refusal::ReadFault) => 7,
+    }
+}
+
+/// Answers a read, and prints its line. The answer is the status that it asks for.
+fn answer_read<T: Stage>(
+    stage: &mut T,
+    base: Slot,
+    l: &Layout,
+    at: Addr,
+    track: &mut [u8],
+    output: &mut [u8],
+) -> Result<u8, Failed>
+    requires base { base ≡ 0 }
+    requires layout { IsLayout l.now }
+    requires mounted { T.tells → IsSure (T.world stage.old) → IsMounted l.now (file_of (T.world stage.old) 0) }
+    requires track { 65536 ≤ length track.old }
+    requires output { LINE_ROOM ≤ length output.old }
+    ensures { Serves T.tells (T.tells × IsSure (T.world stage.old)) l.now (file_of (T.world stage.old) 0)
+        (T.world stage.old) (T.world stage.new) (T.faults stage.old) (T.faults stage.new) (items.Asked (Call.Read at) ∷ []) result }
+{
+    let reply = read_at(stage, base, l, at, track);
+    let end = print_reply(Call::Read { at }, &reply, track, output);
+    let Ok(()) = put_all(stage, &output[..end as usize]) else {
+        return Err(Failed);
+    };
+    Ok(status_of(reply))
+}
+
+/// Prints the reply to the call that ends a run. The answer is its status.
+pub fn close<T: Stage>(stage: &mut T, l: &Layout, output: &mut [u8]) -> Result<u8, Failed>
+    requires output { LINE_ROOM ≤ length output.old }
+    ensures { Serves T.tells (T.tells × IsSure (T.world stage.old)) l.now (file_of (T.world stage.old) 0)
+        (T.world stage.old) (T.world stage.new) (T.faults stage.old) (T.faults stage.new) (items.Asked Call.Close ∷ []) result }
+{
+    let end = print_reply(Call::Close, &Reply::Closed, &[], output);
+    let Ok(()) = put_all(stage, &output[..end as usize]) else {
+        return Err(Failed);
+    };
+    Ok(0)
+}
+
+/// Prints the line of a line that was misread. The answer is the status that it asks for.
+pub fn refuse<T: Stage>(
+    stage: &mut T,
+    l: &Layout,
+    why: Misreading,
+    output: &mut [u8],
+) -> Result<u8, Failed>
+    requires output { LINE_ROOM ≤ length output.old }
+    ensures { Serves T.tells (T.tells × IsSure (T.world stage.old)) l.now (file_of (T.world stage.old) 0)
+        (T.world stage.old) (T.world stage.new) (T.faults stage.old) (T.faults stage.new) (items.Misread why ∷ []) result }
+{
+    let end = print_misreading(why, output);
+    let Ok(()) = put_all(stage, &output[..end as usize]) else {
+        return Err(Failed);
+    };
+    Ok(1)
+}
+
+/// Answers a call, and prints its line. The answer is the status that its reply asks for.
+fn answer<T: Stage>(
+    stage: &mut T,
+    base: Slot,
+    l: &Layout,
+    call: Call,
+    track: &mut [u8],
+    output: &mut [u8],
+) -> Result<u8, Failed>
+    requires base { base ≡ 0 }
+    requires layout { IsLayout l.now }
+    requires mounted { T.tells → IsSure (T.world stage.old) → IsMounted l.now (file_of (T.world stage.old) 0) }
+    requires track { 65536 ≤ length track.old }
+    requires output { LINE_ROOM ≤ length output.old }
+    ensures { Serves T.tells (T.tells × IsSure (T.world stage.old)) l.now (file_of (T.world stage.old) 0)
+        (T.world stage.old) (T.world stage.new) (T.faults stage.old) (T.faults stage.new) (items.Asked call ∷ []) result }
+{
+    match call {
+        Call::Read { at } => answer_read(stage, base, l, at, track, output),
+        Call::Close => close(stage, l, output),
+    }
+}
+
+/// Answers a line of the script. The answer is the status that its reply asks for.
+pub fn answer_line<T: Stage>(
+    stage: &mut T,
+    base: Slot,
+    l: &Layout,
+    line: &[u8],
+    track: &mut [u8],
+    output: &mut [u8],
+) -> Result<u8, Failed>
+    requires base { base ≡ 0 }
+    requires layout { IsLayout l.now }
+    requires mounted { T.tells → IsSure (T.world stage.old) → IsMounted l.now (file_of (T.world stage.old) 0) }
+    requires line { length line.now ≤ LINE_LIMIT }
+    requires track { 65536 ≤ length track.old }
+    requires output { LINE_ROOM ≤ length output.old }
+    ensures { Serves T.tells (T.tells × IsSure (T.world stage.old)) l.now (file_of (T.world stage.old) 0)
+        (T.world stage.old) (T.world stage.new) (T.faults stage.old) (T.faults stage.new) (line_items line.now) result }
+{
+    match parse_line(line) {
+        Ok(What::Nothing) => Ok(0),
+        Ok(What::One { call }) => answer(stage, base, l, call, track, output),
+        Err(fault) => {
+            let why = Misreading::LineFault {
+                column: fault.column,
+            };
+            refuse(stage, l, why, output)
+        }
+    }
+}

@@ -1,0 +1,214 @@
+//! The script, line by line, as it is taken into a room.
+
+ghost use Rattle.std.specs.Prelude.{◌≡◌, ℕ, ◌+◌, ◌-◌, ◌<◌, ◌≤◌, ◌++◌, false, length, position, [], IfOk, IfErr, IfSome, IfNone, OnErr};
+ghost use Rattle.cckd_shelf.specs.Faults.{Fails};
+ghost use Rattle.cckd_shelf.specs.declared.fault.Kind.TheVariants.{Takes};
+ghost use Rattle.cckd_top.specs.Lines.{is_feed, IsPlace, IsAtEnd, Grows, TakesMore, IsNext, Passes, LiesIn, IsShort, Advances, BreaksOff, pending, allowance, line_next};
+ghost use Rattle.cckd_top.specs.World.{OnlyTakes};
+
+use cckd_script::LINE_LIMIT;
+use cckd_shelf::{Failed, Stage};
+
+/// Where the script stands: what was taken of it lies in a room, from `start` to `end`.
+#[derive(Clone, Copy, Debug, PartialEq, Eq)]
+pub struct Place {
+    /// Where the next line begins.
+    pub start: usize,
+    /// Where the bytes end that were taken.
+    pub end: usize,
+    /// How many more bytes may be taken before the script is too long.
+    pub left: usize,
+    /// Whether the script's end was met.
+    pub ended: bool,
+}
+
+/// What comes next in a script.
+#[derive(Clone, Copy, Debug, PartialEq, Eq)]
+pub enum Next {
+    /// A line, which lies in the room from `start` to `end`, without its line feed.
+    Line { start: usize, end: usize },
+    /// A line of more than 131,072 bytes, which was passed.
+    LineTooLong,
+    /// The line in which the first byte past the script's limit stands.
+    ScriptTooLong,
+    End,
+}
+
+/// Where the first line feed of a text stands.
+fn first_feed(text: &[u8]) -> Option<usize>
+    ensures { result ≡ position is_feed text.now }
+{
+    text.iter().position(|b| *b == b'\n')
+}
+
+/// Moves what is pending to the front of the room.
+fn moved_to_front(room: &mut [u8], place: Place) -> Place
+    requires { IsPlace room.old place }
+    ensures place { IsPlace room.new result }
+    ensures pending { pending room.new result ≡ pending room.old place }
+    ensures end { result ≡ record place { start = 0; end = place.end - place.start } }
+{
+    room.copy_within(place.start..place.end, 0);
+    Place {
+        start: 0,
+        end: place.end - place.start,
+        ..place
+    }
+}
+
+/// Takes more of the script behind what is pending, or meets its end. None where a byte past the limit
+/// was taken.
+fn take_more<T: Stage>(
+    stage: &mut T,
+    room: &mut [u8],
+    place: Place,
+) -> Result<Option<Place>, Failed>
+    requires place { IsPlace room.old place }
+    requires room { place.end < length room.old }
+    requires going_on { place.ended ≡ false }
+    ensures place { IfOk result (λ taken. IfSome taken (IsPlace room.new)) }
+    ensures grows { IfOk result (λ taken. IfSome taken (Grows place)) }
+    ensures takes { T.tells → IfOk result (λ taken. IfSome taken (λ after. TakesMore room.old room.new place after
+        (T.world stage.old).script (T.world stage.new).script)) }
+    ensures past { IfOk result (λ taken. IfNone taken (place.left ≡ 0)) }
+    ensures room { length room.new ≡ length room.old }
+    ensures some { T.tells → IfOk result (λ taken. IfNone taken (0 < length (T.world stage.old).script)) }
+    ensures only { T.tells → OnlyTakes (T.world stage.old) (T.world stage.new) }
+    ensures kept { T.tells → OnErr result (T.world stage.new ≡ T.world stage.old) }
+    ensures fails { Fails Takes result (T.faults stage.old) (T.faults stage.new) }
+{
+    let room_left = room.len() - place.end;
+    let want = room_left.min(place.left).max(1);
+    let count = stage.take(&mut room[place.end..place.end + want])?;
+    if count == 0 {
+        return Ok(Some(Place {
+            ended: true,
+            ..place
+        }));
+    }
+    if place.left == 0 {
+        return Ok(None);
+    }
+    Ok(Some(Place {
+        end: place.end + count,
+        left: place.left - count,
+        ..place
+    }))
+}
+
+/// Passes the rest of a line that is too long, of which nothing is kept.
+fn pass_line<T: Stage>(
+    stage: &mut T,
+    room: &mut [u8],
+    place: Place,
+) -> Result<(Next, Place), Failed>
+    requires room { 0 < length room.old }
+    requires going_on { place.ended ≡ false }
+    ensures place { IfOk result (λ found. IsPlace room.new found.1) }
+    ensures ended { T.tells → IfOk result (λ found. IsAtEnd found.1 (T.world stage.new).script) }
+    ensures passes { T.tells → IfOk result (λ found. Passes (T.world stage.old).script
+        (pending room.new found.1 ++ (T.world stage.new).script) place.left found.1 found.0) }
+    ensures lies { IfOk result (λ found. LiesIn room.new found.0) }
+    ensures short { IfOk result (λ found. IsShort found.0) }
+    ensures left { IfOk result (λ found. allowance found.1 ≤ place.left) }
+    ensures room { length room.new ≡ length room.old }
+    ensures broken { T.tells → OnErr result (BreaksOff (T.world stage.old).script (T.world stage.new).script) }
+    ensures only { T.tells → OnlyTakes (T.world stage.old) (T.world stage.new) }
+    ensures fails { Fails Takes result (T.faults stage.old) (T.faults stage.new) }
+{
+    let mut place = place;
+    loop {
+        place = Place {
+            start: 0,
+            end: 0,
+            ..place
+        };
+        let Some(taken) = take_more(stage, room, place)? else {
+            return Ok((Next::ScriptTooLong, place));
+        };
+        place = taken;
+        if let Some(at) = first_feed(&room[place.start..place.end]) {
+            let behind = Place {
+                start: place.start + at + 1,
+                ..place
+            };
+            return Ok((Next::LineTooLong, behind));
+        }
+        if place.ended {
+            let behind = Place {
+                start: place.end,
+                ..place
+            };
+            return Ok((Next::LineTooLong, behind));
+        }
+    }
+}
+
+/// A line of `len` bytes from the place on, and the place `past` bytes further.
+fn cut_off(place: Place, len: usize, past: usize) -> (Next, Place)
+    requires order { len ≤ past }
+    requires within { place.start + past ≤ place.end }
+    ensures next { result.0 ≡ line_next place.start len }
+    ensures short { IsShort result.0 }
+    ensures place { result.1 ≡ record place { start = place.start + past } }
+{
+    let next = if len > LINE_LIMIT {
+        Next::LineTooLong
+    } else {
+        Next::Line {
+            start: place.start,
+            end: place.start + len,
+        }
+    };
+    let behind = Place {
+        start: place.start + past,
+        ..place
+    };
+    (next, behind)
+}
+
+/// What comes next in the script, from a place of the room on.
+pub fn next_line<T: Stage>(
+    stage: &mut T,
+    room: &mut [u8],
+    place: Place,
+) -> Result<(Next, Place), Failed>
+    requires place { IsPlace room.old place }
+    requires room { LINE_LIMIT + 2 ≤ length room.old }
+    requires ended { T.tells → IsAtEnd place (T.world stage.old).script }
+    ensures place { IfOk result (λ found. IsPlace room.new found.1) }
+    ensures room { length room.new ≡ length room.old }
+    ensures ended { T.tells → IfOk result (λ found. IsAtEnd found.1 (T.world stage.new).script) }
+    ensures next { T.tells → IfOk result (λ found. IsNext room.new (pending room.old place ++ (T.world stage.old).script)
+        (pending room.new found.1 ++ (T.world stage.new).script) (allowance place) found.1 found.0) }
+    ensures lies { IfOk result (λ found. LiesIn room.new found.0) }
+    ensures short { IfOk result (λ found. IsShort found.0) }
+    ensures advances { IfOk result (λ found. Advances (allowance place) (allowance found.1) found.0) }
+    ensures broken { T.tells → OnErr result
+        (BreaksOff (pending room.old place ++ (T.world stage.old).script) (T.world stage.new).script) }
+    ensures going_on { OnErr result (place.ended ≡ false) }
+    ensures only { T.tells → OnlyTakes (T.world stage.old) (T.world stage.new) }
+    ensures fails { Fails Takes result (T.faults stage.old) (T.faults stage.new) }
+{
+    let mut place = place;
+    loop {
+        let len = place.end - place.start;
+        if let Some(at) = first_feed(&room[place.start..place.end]) {
+            return Ok(cut_off(place, at, at + 1));
+        }
+        if place.ended && len == 0 {
+            return Ok((Next::End, place));
+        }
+        if place.ended {
+            return Ok(cut_off(place, len, len));
+        }
+        if len > LINE_LIMIT {
+            return pass_line(stage, room, place);
+        }
+        place = moved_to_front(room, place);
+        let Some(taken) = take_more(stage, room, place)? else {
+            return Ok((Next::ScriptTooLong, place));
+        };
+        place = taken;
+    }
+}
