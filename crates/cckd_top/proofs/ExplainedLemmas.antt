@@ -15,21 +15,22 @@ use Rattle.cckd_top.specs.Opening.{ready}
 use Rattle.cckd_top.specs.Serving.{IsLegal, HasServed, ServesScript, OfTheScript, OfTheTaken, OfAFront}
 use Rattle.cckd_top.specs.Text.{halt_text, halt_status}
 use Rattle.cckd_top.specs.Words.{words_fault, file_word}
-use Rattle.cckd_top.specs.World.{KeepsFiles, OnlyLooks, PutsFront, IsPrinted, whole, cut_short}
-use Rattle.cckd_top.specs.Run.{halted, closed, unscripted, cut, script_limit, opening_in, HasHaltCause, OverTheFile, HasFileCause, words_are_bad, file_is_named}
+use Rattle.cckd_top.specs.World.{KeepsFiles, MakesSome, MakesThenPuts, PutsFront, IsPrinted, whole, cut_short}
+use Rattle.cckd_top.specs.Run.{halted, closed, unscripted, cut, script_limit, opening_in, HasHaltCause, OverTheFile, HasFileCause, words_are_bad, file_is_named, HaltMakes, IsBaseSync}
 use Rattle.cckd_top.specs.Explained.{IsExplained, IsFileExplained, Finishes}
 use Rattle.cckd_top.proofs.FaultLemmas.{none_fell_twice}
-use Rattle.cckd_top.proofs.WorldLemmas.{keeps_files_twice}
+use Rattle.cckd_top.proofs.WorldLemmas.{keeps_files_twice, makes_then_puts, only_makes_nothing}
+use Rattle.cckd_top.proofs.MountLemmas.{idle_makes}
 use Rattle.cckd_top.proofs.ServingLemmas.{none_fell_same}
 
 -- what looked before put nothing
 printed_later : (tells rose risen : Type 0) (old between new : World) (text : List ℕ) (code status : ℕ) → (rose → risen)
-    → (tells → OnlyLooks old between) → IsPrinted tells between new text code rose status → IsPrinted tells old new text code risen status
-printed_later tells rose risen old between new text code status more looks printed = elim printed [
-  | whole put is ↦ whole (λ t. put t ∙ ap (λ (s : List ℕ). s ++ text) (looks t).asks.silent) is
+    → (tells → output_of between.events ≡ output_of old.events) → IsPrinted tells between new text code rose status → IsPrinted tells old new text code risen status
+printed_later tells rose risen old between new text code status more silent printed = elim printed [
+  | whole put is ↦ whole (λ t. put t ∙ ap (λ (s : List ℕ). s ++ text) (silent t)) is
   | cut_short put up is ↦ cut_short (λ t. record {
     count = (put t).count;
-    front = (put t).front ∙ ap (λ (s : List ℕ). s ++ take (put t).count text) (looks t).asks.silent;
+    front = (put t).front ∙ ap (λ (s : List ℕ). s ++ take (put t).count text) (silent t);
   }) (more up) is
 ]
 
@@ -46,16 +47,16 @@ halt_later told w name before after later halt.NotYet fell cause = cause
 
 -- a run that halts at its files
 pub file_halts : (tells : Type 0) (w between w' : World) (name : List ℕ) (before after later : Faults) (why : Halt) (status : ℕ)
-    → HasHaltCause (tells × IsSure w) w name before after why → (tells → OnlyLooks w between) → NoneFell before after
+    → HasHaltCause (tells × IsSure w) w name before after why → (tells → MakesSome (HaltMakes why) w between) → NoneFell before after
     → IsPrinted tells between w' (line (halt_text why)) (halt_status why) (Rose after.puts later.puts) status
     → (tells → KeepsFiles between w') → (tells → w'.script ≡ between.script) → NoneFell after later
     → IsFileExplained tells w w' before later name status
-file_halts tells w between w' name before after later why status cause looks fell printed files script then = record {
+file_halts tells w between w' name before after later why status cause makes fell printed files script then = record {
   end = halted why;
-  cause = (halt_later (tells × IsSure w) w name before after later why then cause, λ t. script t ∙ (looks t).script);
+  cause = (halt_later (tells × IsSure w) w name before after later why then cause, λ t. script t ∙ (makes t).makes.script);
   printed = printed_later tells (Rose after.puts later.puts) (Rose before.puts later.puts) w between w' (line (halt_text why)) (halt_status why) status
-      (λ rose. omega (arith, rose, fell.puts)) looks printed;
-  files = λ t. keeps_files_twice w between w' (looks t).asks.keeps (files t);
+      (λ rose. omega (arith, rose, fell.puts)) (λ t. (makes t).makes.silent) printed;
+  makes = λ t. makes_then_puts (HaltMakes why) w between w' (makes t) (files t);
   fell = none_fell_twice before after later fell then;
 }
 
@@ -75,17 +76,17 @@ printed_behind tells rose risen old between new before text code status more sai
   }) (more up) is
 ]
 
-front_later : (old between new : World) (text : List ℕ) → OnlyLooks old between → PutsFront between new text → PutsFront old new text
-front_later old between new text looks front = record {
+front_later : (old between new : World) (text : List ℕ) → output_of between.events ≡ output_of old.events → PutsFront between new text → PutsFront old new text
+front_later old between new text silent front = record {
   count = front.count;
-  front = front.front ∙ ap (λ (s : List ℕ). s ++ take front.count text) looks.asks.silent;
+  front = front.front ∙ ap (λ (s : List ℕ). s ++ take front.count text) silent;
 }
 
 -- a run whose script was served
 module _ (tells : Type 0) (w between served end : World) (name : List ℕ) (before after later last : Faults) (l : Layout)
     (opened : tells × IsSure w → opening_in w name ≡ ready l)
     (base : tells → file_of between 0 ≡ held_by w name)
-    (looks : tells → OnlyLooks w between) (fell : NoneFell before after)
+    (makes : tells → MakesSome IsBaseSync w between) (fell : NoneFell before after)
   where
     over_the_file : (entries : List Entry) → HasServed (tells × IsSure between) l (file_of between 0) after later entries → NoneFell later last
         → OverTheFile (tells × IsSure w) w name before last entries
@@ -94,17 +95,17 @@ module _ (tells : Type 0) (w between served end : World) (name : List ℕ) (befo
       opened = opened;
       served = record {
         legal = λ t. subst (λ (f : List ℕ). AllByRecursion (IsLegal l f) entries) (base t.0)
-            (legal.legal (t.0, subst IsTrue (sym (looks t.0).asks.keeps.sure) t.1));
+            (legal.legal (t.0, subst IsTrue (sym (makes t.0).makes.sure) t.1));
         counted = omega (arith, legal.counted, fell.reads, more.reads);
       };
     }
 
     said_later : (entries : List Entry) → (tells → output_of served.events ≡ output_of between.events ++ script_text entries)
         → tells → output_of served.events ≡ output_of w.events ++ script_text entries
-    said_later entries said told = said told ∙ ap (λ (s : List ℕ). s ++ script_text entries) (looks told).asks.silent
+    said_later entries said told = said told ∙ ap (λ (s : List ℕ). s ++ script_text entries) (makes told).makes.silent
 
     same_script : tells → between.script ≡ w.script
-    same_script told = (looks told).script
+    same_script told = (makes told).makes.script
 
     pub file_served : (code : ℕ) (why : Stop) (serves : ServesScript tells (tells × IsSure between) l (file_of between 0) script_limit between served after later why)
         → Finishes tells served end later last code why → IsFileExplained tells w end before last name code
@@ -124,7 +125,7 @@ module _ (tells : Type 0) (w between served end : World) (name : List ℕ) (befo
             λ told. ap (λ (v : World). output_of v.events) (same told) ∙ said_later serves.entries serves.stops.1.0 told,
             finishes.2 ∙ serves.stops.1.1,
           );
-          files = λ told. subst (KeepsFiles w) (sym (same told)) (keeps_files_twice w between served (looks told).asks.keeps (serves.files told));
+          makes = λ told. subst (MakesThenPuts IsBaseSync w) (sym (same told)) (makes_then_puts IsBaseSync w between served (makes told) (serves.files told));
           fell = subst (NoneFell before) (sym counts) (none_fell_twice before after later fell serves.fell);
         }
     file_served code stop.Unscripted serves finishes =
@@ -140,7 +141,7 @@ module _ (tells : Type 0) (w between served end : World) (name : List ℕ) (befo
           );
           printed = printed_behind tells (Rose later.puts last.puts) (Rose before.puts last.puts) w served end (script_text serves.entries) (line (codes "fault: source")) 7 code
               (λ rose. omega (arith, rose, fell.puts, serves.fell.puts)) (said_later serves.entries serves.stops.2.0) finishes.0;
-          files = λ told. keeps_files_twice w served end (keeps_files_twice w between served (looks told).asks.keeps (serves.files told)) (finishes.1 told);
+          makes = λ told. makes_then_puts IsBaseSync w between end (makes told) (keeps_files_twice between served end (serves.files told) (finishes.1 told));
           fell = none_fell_twice before later last (none_fell_twice before after later fell serves.fell) finishes.3;
         }
     file_served code stop.Cut serves finishes =
@@ -154,11 +155,11 @@ module _ (tells : Type 0) (w between served end : World) (name : List ℕ) (befo
           );
           printed = (
             λ told. subst (λ (v : World). PutsFront w v (script_text serves.entries)) (sym (same told))
-                (front_later w between served (script_text serves.entries) (looks told) (serves.stops.1.0 told)),
+                (front_later w between served (script_text serves.entries) (makes told).makes.silent (serves.stops.1.0 told)),
             omega (arith, serves.stops.1.1, fell.puts, ap (λ (f : Faults). f.puts) counts),
             finishes.2,
           );
-          files = λ told. subst (KeepsFiles w) (sym (same told)) (keeps_files_twice w between served (looks told).asks.keeps (serves.files told));
+          makes = λ told. subst (MakesThenPuts IsBaseSync w) (sym (same told)) (makes_then_puts IsBaseSync w between served (makes told) (serves.files told));
           fell = subst (NoneFell before) (sym counts) (none_fell_twice before after later fell serves.fell);
         }
 
@@ -170,7 +171,7 @@ words_named tells w w' before after words name status good is file = record {
   end = file.end;
   cause = file_is_named good (subst (λ (n : List ℕ). HasFileCause tells (tells × IsSure w) w w' n before after file.end) is file.cause);
   printed = file.printed;
-  files = file.files;
+  makes = file.makes;
   fell = file.fell;
 }
 
@@ -183,6 +184,6 @@ words_halt tells w w' before after words n status bad printed files fell = recor
   end = halted (halt.BadWords n);
   cause = words_are_bad n bad refl;
   printed = printed;
-  files = files;
+  makes = λ t. makes_then_puts (HaltMakes (halt.BadWords n)) w w w' (idle_makes _ w w refl (only_makes_nothing w)) (files t);
   fell = fell;
 }

@@ -1,62 +1,86 @@
 -- Steps of a mounting.
-use Rattle.std.proofs.Common.{◌≡◌, ℕ, Bool, true, false, IsTrue, List, [], ◌∷◌, Option, Some, None, unwrap_or, Result, Ok, Err, IfErr, refl, sym, ◌∙◌, ap, subst, arith, append-nil}
+use Rattle.std.proofs.Common.{◌≡◌, ℕ, Bool, true, false, IsTrue, List, [], ◌∷◌, Option, Some, None, unwrap_or, Result, Ok, Err, IfErr, inl, inr, refl, sym, ◌∙◌, ap, subst, arith, append-nil}
 use Rattle.cckd_base.specs.declared.geometry.Layout.{Layout}
 use Rattle.cckd_base.specs.declared.fault.HeaderFault.{HeaderFault}
 use Rattle.cckd_base.specs.declared.misfit.Misfit.{Misfit}
 use Rattle.cckd_base.specs.Survey.{misfits}
 use Rattle.cckd_tables.specs.Scan.{first_misfit}
 use Rattle.cckd_shelf.specs.declared.fault.Faults.{Faults}
+use Rattle.cckd_shelf.specs.declared.op.Op.{Op}
+use Rattle.cckd_shelf.specs.declared.op.Op.TheVariants.{Sync}
 use Rattle.cckd_shelf.specs.Faults.{NoneFell}
 use Rattle.cckd_shelf.specs.World.{World, IsSure, IsTied, file_of, held_by, output_of, after_sync}
 use Rattle.cckd_top.specs.declared.halt.Halt.{Halt}
 use Rattle.cckd_top.specs.declared.halt.Halt.TheVariants as halt
 use Rattle.cckd_top.specs.Opening.{bad_header, has_misfit, not_yet, ready, opening_by, opening_of, base_fault, file_layout, IsBaseOf, HasBaseCause}
-use Rattle.cckd_top.specs.Run.{HasHaltCause, opening_in}
-use Rattle.cckd_top.specs.World.{OnlyLooks, AreNamed, file_ops, has_shadow, holds_shadow}
-use Rattle.cckd_top.proofs.WorldLemmas.{only_looks_twice}
+use Rattle.cckd_top.specs.Run.{HasHaltCause, HaltMakes, IsBaseSync, opening_in}
+use Rattle.cckd_top.specs.World.{OnlyMakes, MakesSome, AreNamed, has_shadow, holds_shadow}
+use Rattle.cckd_top.proofs.WorldLemmas.{only_makes_twice}
 use Rattle.cckd_top.proofs.ShadowLemmas.{shadows_are_held}
 
-sync_looks : (w : World) (slot : ℕ) → OnlyLooks w (after_sync w slot)
-sync_looks w slot = record {
-  asks = record {
-    keeps = record { files = refl; untouched = append-nil (file_ops w.events); sure = refl };
-    silent = append-nil (output_of w.events);
-  };
-  script = refl;
-}
+sync_makes : (w : World) (slot : ℕ) → OnlyMakes (Sync slot ∷ []) w (after_sync w slot)
+sync_makes w slot = record { files = refl; made = refl; silent = append-nil (output_of w.events); sure = refl; script = refl }
 
--- The files have the names of a disk, and nothing else happened to them: slot 0 holds what the name held, and the slots above its shadows.
+-- The files have the names of a disk, and nothing else was done but to sync the base: slot 0 holds what the name held, and the slots above its shadows.
 pub record IsNamedDisk (tells : Type 0) (old now : World) (name : List ℕ) : Type 0 where
-  pub looks : tells → OnlyLooks old now
+  pub makes : tells → OnlyMakes (Sync 0 ∷ []) old now
   pub named : tells → AreNamed now name 9
 
 -- after the base was synced
-pub after_the_sync : (tells : Type 0) (old bound synced : World) (name : List ℕ) (slot : ℕ) → (tells → OnlyLooks old bound)
+pub after_the_sync : (tells : Type 0) (old bound synced : World) (name : List ℕ) (slot : ℕ) → slot ≡ 0 → (tells → OnlyMakes [] old bound)
     → (tells → AreNamed bound name 9) → (tells → synced ≡ after_sync bound slot) → IsNamedDisk tells old synced name
-after_the_sync tells old bound synced name slot looks named sync = record {
-  looks = λ told. only_looks_twice old bound synced (looks told) (subst (OnlyLooks bound) (sym (sync told)) (sync_looks bound slot));
-  named = λ told. subst (λ (w : World). AreNamed w name 9) (sym (sync told)) (named told);
-}
+after_the_sync tells old bound synced name slot base idle named sync =
+    let is : tells → synced ≡ after_sync bound 0 = λ told. sync told ∙ ap (after_sync bound) base in
+    record {
+      makes = λ told. only_makes_twice [] (Sync 0 ∷ []) old bound synced (idle told)
+          (subst (OnlyMakes (Sync 0 ∷ []) bound) (sym (is told)) (sync_makes bound 0));
+      named = λ told. subst (λ (w : World). AreNamed w name 9) (sym (is told)) (named told);
+    }
 
 pub same_disk : (tells : Type 0) (old now then : World) (name : List ℕ) → IsNamedDisk tells old now name → (tells → then ≡ now)
     → IsNamedDisk tells old then name
 same_disk tells old now then name disk kept = record {
-  looks = λ told. subst (OnlyLooks old) (sym (kept told)) (disk.looks told);
+  makes = λ told. subst (OnlyMakes (Sync 0 ∷ []) old) (sym (kept told)) (disk.makes told);
   named = λ told. subst (λ (w : World). AreNamed w name 9) (sym (kept told)) (disk.named told);
 }
+
+module _ (tells : Type 0) (old now : World) (name : List ℕ) (disk : IsNamedDisk tells old now name) where
+  pub synced : tells → MakesSome IsBaseSync old now
+  synced told = record { ops = Sync 0 ∷ []; are = refl; makes = disk.makes told }
+
+  -- a base that isn't opened was synced
+  synced_at : (told : Type 0) (file : List ℕ) (before after : Faults) (why : Halt) → HasBaseCause told file before after why
+      → HaltMakes why (Sync 0 ∷ [])
+  synced_at told file before after (halt.BadWords n) cause = absurd cause
+  synced_at told file before after halt.ReadFault cause = inr refl
+  synced_at told file before after halt.SyncFault cause = absurd cause
+  synced_at told file before after halt.Memory cause = refl
+  synced_at told file before after (halt.BadHeader fault) cause = refl
+  synced_at told file before after (halt.HasMisfit misfit) cause = refl
+  synced_at told file before after halt.NotYet cause = absurd cause
+
+  pub halt_makes : {T : Type 0} (told : Type 0) (file : List ℕ) (before after : Faults) (r : Result T Halt)
+      → IfErr r (HasBaseCause told file before after) → tells → IfErr r (λ why. MakesSome (HaltMakes why) old now)
+  halt_makes told file before after (Ok x) cause tell = tt
+  halt_makes told file before after (Err why) cause tell =
+      record { ops = Sync 0 ∷ []; are = synced_at told file before after why cause; makes = disk.makes tell }
+
+-- a halt before the sync
+pub idle_makes : (may : List Op → Type 0) (old now : World) → may [] → OnlyMakes [] old now → MakesSome may old now
+idle_makes may old now fits idle = record { ops = []; are = fits; makes = idle }
 
 module _ (tells : Type 0) (old now : World) (name : List ℕ) (disk : IsNamedDisk tells old now name) (tied : tells → IsTied now) where
   -- the base is the file of the name
   pub base_is : tells → file_of now 0 ≡ held_by old name
   base_is told =
       sym ((tied told).named 0 name (disk.named told 0 (omega arith)))
-      ∙ ap (λ (files : List ℕ → Option (List ℕ)). unwrap_or (files name) []) (disk.looks told).asks.keeps.files
+      ∙ ap (λ (files : List ℕ → Option (List ℕ)). unwrap_or (files name) []) (disk.makes told).files
 
   pub shadow_is : tells → holds_shadow now 8 ≡ has_shadow old name 8
-  shadow_is told = shadows_are_held now old name 8 (omega arith) (disk.named told) (tied told) (sym (disk.looks told).asks.keeps.files)
+  shadow_is told = shadows_are_held now old name 8 (omega arith) (disk.named told) (tied told) (sym (disk.makes told).files)
 
   pub sure_still : tells → IsSure old → IsSure now
-  sure_still told sure = subst IsTrue (sym (disk.looks told).asks.keeps.sure) sure
+  sure_still told sure = subst IsTrue (sym (disk.makes told).sure) sure
 
 opening_ready_by : (f : Option HeaderFault) (ms : List Misfit) (above : Bool) (l : Layout) → f ≡ None → ms ≡ [] → above ≡ false
     → opening_by f ms above l ≡ ready l

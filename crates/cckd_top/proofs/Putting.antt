@@ -1,11 +1,12 @@
 -- What the loop that puts a text keeps.
-use Rattle.std.proofs.Common.{◌≡◌, ℕ, ◌+◌, ◌-◌, ◌≤◌, List, ◌++◌, length, take, drop, refl, sym, ◌∙◌, ap, subst, arith, append_assoc, append-nil, length-drop}
+use Rattle.std.proofs.Common.{◌≡◌, ℕ, ◌+◌, ◌-◌, ◌≤◌, List, [], ◌∷◌, ◌++◌, length, take, drop, refl, sym, ◌∙◌, ap, subst, arith, append_assoc, length-drop}
 use Rattle.std.proofs.Math.Seq.{take-add, take-length}
 use Rattle.cckd_shelf.specs.declared.fault.Faults.{Faults}
 use Rattle.cckd_shelf.specs.declared.fault.Kind.TheVariants.{Puts}
 use Rattle.cckd_shelf.specs.Faults.{Fails}
 use Rattle.cckd_shelf.specs.World.{World, output_of, file_of, after_put}
-use Rattle.cckd_top.specs.World.{KeepsFiles, file_ops}
+use Rattle.cckd_shelf.specs.declared.op.Op.TheVariants.{Out}
+use Rattle.cckd_top.specs.World.{KeepsFiles}
 use Rattle.cckd_top.proofs.FaultLemmas.{went_well, fails_then}
 use Rattle.cckd_top.proofs.WorldLemmas.{keeps_files_twice}
 
@@ -19,7 +20,7 @@ pub record IsPutSoFar (tells : Type 0) (old now : World) (before after : Faults)
   pub fails : Fails Puts went_well before after
 
 keeps_at_put : (w : World) (bytes : List ℕ) → KeepsFiles w (after_put w bytes)
-keeps_at_put w bytes = record { files = refl; untouched = append-nil (file_ops w.events); sure = refl }
+keeps_at_put w bytes = record { files = refl; puts = Out bytes ∷ []; only = (tt, tt); made = refl; sure = refl }
 
 -- one more piece of it
 pub put_more : (tells : Type 0) (old now next : World) (before after later : Faults) (text : List ℕ) (n m : ℕ)

@@ -27,12 +27,8 @@ use Rattle.cckd_top.specs.Serving.{IsLegal, HasServed, Serves, RoseBy, read_faul
 use Rattle.cckd_top.specs.World.{KeepsFiles, OnlyTakes, PutsFront}
 use Rattle.cckd_top.proofs.FaultLemmas.{none_fell_twice}
 use Rattle.cckd_top.proofs.ServingLemmas.{rose_twice, rose_by_none, none_fell_same}
-use Rattle.cckd_top.proofs.WorldLemmas.{keeps_files_twice, takes_asks, takes_file}
+use Rattle.cckd_top.proofs.WorldLemmas.{all_twice, keeps_files_twice, keeps_files_same, takes_keeps, takes_file}
 use Rattle.cckd_top.proofs.ScriptLemmas.{IsReadUpTo, reads_none, reads_on, reads_all, reads_limit, reads_taken, reads_front}
-
-all_twice : {X : Type 0} (P : X → Type 0) (xs ys : List X) → AllByRecursion P xs → AllByRecursion P ys → AllByRecursion P (xs ++ ys)
-all_twice P [] ys f g = g
-all_twice P (x ∷ xs) ys f g = (f.0, all_twice P xs ys f.1 g)
 
 faults_twice : (es fs : List Entry) → read_faults (es ++ fs) ≡ read_faults es + read_faults fs
 faults_twice [] fs = omega arith
@@ -95,7 +91,7 @@ serves_none tells told l file limit w f room place is =
       within = record { order = omega arith; within = omega arith };
       ended = λ t e. absurd (false≢true e);
       read = λ t. subst (λ (n : ℕ). IsReadUpTo limit w.script w.script n false []) (omega arith) (reads_none limit w.script);
-      files = λ t. record { files = refl; untouched = refl; sure = refl };
+      files = λ t. keeps_files_same w;
       slot = λ t. refl;
       fell = none_fell_same f;
       long = refl;
@@ -153,9 +149,6 @@ served_earlier tells l w now a b es keeps file served = record {
       (served.legal (t.0, subst IsTrue (sym (keeps t.0).sure) t.1));
   counted = served.counted;
 }
-
-takes_keeps : (a b : World) → OnlyTakes a b → KeepsFiles a b
-takes_keeps a b h = (takes_asks a b h).keeps
 
 module _ (tells : Type 0) (l : Layout) (limit : ℕ) (w now between then : World) (before after asked served : Faults)
     (begun room room' : List ℕ) (place behind : Place) (status : ℕ) (found : Next)

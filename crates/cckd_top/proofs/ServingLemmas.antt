@@ -17,6 +17,7 @@ use Rattle.cckd_script.specs.Text.{Entry, item_of, entry_text, script_text}
 use Rattle.cckd_top.specs.World.{KeepsFiles, PutsFront}
 use Rattle.cckd_top.specs.Serving.{IsLegal, HasServed, Serves, RoseBy, entry_faults, entry_status}
 use Rattle.cckd_top.proofs.FaultLemmas.{none_fell_twice}
+use Rattle.cckd_top.proofs.WorldLemmas.{keeps_files_same}
 
 -- what was put at the front of a line is the line
 pub line_is : (end : ℕ) (text old new : List ℕ) → IsPut 0 end text old new → take end new ≡ text
@@ -94,7 +95,7 @@ none_served tells told l file w f items none = record {
   served = record { legal = λ t. tt; counted = rose_by_none f.reads };
   said = (λ t. sym (append-nil (output_of w.events)), refl);
   script = λ t. refl;
-  files = λ t. record { files = refl; untouched = refl; sure = refl };
+  files = λ t. keeps_files_same w;
   slot = λ t. refl;
   fell = none_fell_same f;
 }

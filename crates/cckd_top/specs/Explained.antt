@@ -6,17 +6,17 @@ use Rattle.cckd_shelf.specs.World.{World, IsSure}
 use Rattle.cckd_script.specs.Text.{line}
 use Rattle.cckd_top.specs.declared.serving.Stop.{Stop}
 use Rattle.cckd_top.specs.declared.serving.Stop.TheVariants as stop
-use Rattle.cckd_top.specs.Run.{Ending, HasFileCause, HasCause, HasPut}
-use Rattle.cckd_top.specs.World.{KeepsFiles, IsPrinted}
+use Rattle.cckd_top.specs.Run.{Ending, HasFileCause, HasCause, HasPut, EndingMakes}
+use Rattle.cckd_top.specs.World.{KeepsFiles, MakesThenPuts, IsPrinted}
 
--- one ending, with its cause in the words, in the files and the script as they were at the start, or in a count of faults that
--- rose, explains the output and the status; and no file is changed
+-- One ending, with its cause in the words, in the files and the script as they were at the start, or in a count of faults that
+-- rose, explains the output and the status; no file is changed, and the base is synced before anything is put.
 pub record IsExplained (tells : Type 0) (before after : World) (faults_before faults_after : Faults) (words : List (List ℕ))
     (status : ℕ) : Type 0 where
   pub end : Ending
   pub cause : HasCause tells (tells × IsSure before) before after words faults_before faults_after end
   pub printed : HasPut tells before after (Rose faults_before.puts faults_after.puts) status end
-  pub files : tells → KeepsFiles before after
+  pub makes : tells → MakesThenPuts (EndingMakes end) before after
   pub fell : NoneFell faults_before faults_after
 
 -- the same of a run on the disk of a file
@@ -25,7 +25,7 @@ pub record IsFileExplained (tells : Type 0) (before after : World) (faults_befor
   pub end : Ending
   pub cause : HasFileCause tells (tells × IsSure before) before after name faults_before faults_after end
   pub printed : HasPut tells before after (Rose faults_before.puts faults_after.puts) status end
-  pub files : tells → KeepsFiles before after
+  pub makes : tells → MakesThenPuts (EndingMakes end) before after
   pub fell : NoneFell faults_before faults_after
 
 -- what is put behind a script that was served, and the status

@@ -1,46 +1,56 @@
 -- What a run that only reads may do to the outside.
-use Rattle.std.specs.Prelude.{◌≡◌, ◌<◌, ℕ, zero, suc, Bool, false, ◌||◌, List, [], ◌∷◌, ◌++◌, take, Some}
+use Rattle.std.specs.Prelude.{◌≡◌, ◌<◌, ⊤, ℕ, zero, suc, Bool, false, ◌||◌, List, ◌++◌, take, Some}
+use Rattle.std.specs.List.{AllByRecursion}
 use Rattle.cckd_shelf.specs.declared.op.Op.{Op}
 use Rattle.cckd_shelf.specs.declared.op.Op.TheVariants.{Write, Torn, Cut, Sync, Out}
-use Rattle.cckd_shelf.specs.World.{World, Event, Made, Half, Bound, is_sure, output_of, name_of, file_of, held_by}
+use Rattle.cckd_shelf.specs.World.{World, ops_of, is_sure, output_of, name_of, file_of, held_by}
 use Rattle.cckd_base.specs.Header.{is_present}
 use Rattle.cckd_top.specs.Names.{slot_name}
 
--- an operation that changes a file, and none for a sync or for output
-abbrev pub on_files : Op → List Op
-on_files (Write slot position bytes) = Write slot position bytes ∷ []
-on_files (Torn slot position bytes) = Torn slot position bytes ∷ []
-on_files (Cut slot len) = Cut slot len ∷ []
-on_files (Sync slot) = []
-on_files (Out bytes) = []
+-- an operation that puts bytes out, and asks nothing of the disk
+abbrev pub IsOutput : Op → Type 0
+IsOutput (Write slot position bytes) = ⊥
+IsOutput (Torn slot position bytes) = ⊥
+IsOutput (Cut slot len) = ⊥
+IsOutput (Sync slot) = ⊥
+IsOutput (Out bytes) = ⊤
 
--- the operations that change files, the oldest first
-abbrev pub file_ops : List Event → List Op
-file_ops [] = []
-file_ops (Made op ∷ earlier) = file_ops earlier ++ on_files op
-file_ops (Half op ∷ earlier) = file_ops earlier ++ on_files op
-file_ops (Bound slot name bytes ∷ earlier) = file_ops earlier
-
--- no file is made or changed, and none is asked to be
+-- no file is made or changed, and the disk is asked for nothing but to read
 pub record KeepsFiles (old new : World) : Type 0 where
   pub files : new.files ≡ old.files
-  pub untouched : file_ops new.events ≡ file_ops old.events
+  pub puts : List Op
+  pub only : AllByRecursion IsOutput puts
+  pub made : ops_of new.events ≡ ops_of old.events ++ puts
   pub sure : is_sure new.events ≡ is_sure old.events
-
--- no file is changed, and nothing is put
-pub record OnlyAsks (old new : World) : Type 0 where
-  pub keeps : KeepsFiles old new
-  pub silent : output_of new.events ≡ output_of old.events
 
 -- a part of the script is taken, and nothing else happens
 pub record OnlyTakes (old new : World) : Type 0 where
   pub files : new.files ≡ old.files
   pub events : new.events ≡ old.events
 
--- no file is changed, nothing is put, and nothing of the script is taken
-pub record OnlyLooks (old new : World) : Type 0 where
-  pub asks : OnlyAsks old new
+-- these operations are made, which put nothing and change no file, and nothing of the script is taken
+pub record OnlyMakes (ops : List Op) (old new : World) : Type 0 where
+  pub files : new.files ≡ old.files
+  pub made : ops_of new.events ≡ ops_of old.events ++ ops
+  pub silent : output_of new.events ≡ output_of old.events
+  pub sure : is_sure new.events ≡ is_sure old.events
   pub script : new.script ≡ old.script
+
+-- the same, where it is only known of the operations what may be made
+pub record MakesSome (may : List Op → Type 0) (old new : World) : Type 0 where
+  pub ops : List Op
+  pub are : may ops
+  pub makes : OnlyMakes ops old new
+
+-- no file is made or changed: all that is done are these operations, and then bytes are put
+pub record MakesThenPuts (may : List Op → Type 0) (old new : World) : Type 0 where
+  pub files : new.files ≡ old.files
+  pub ops : List Op
+  pub are : may ops
+  pub puts : List Op
+  pub only : AllByRecursion IsOutput puts
+  pub made : ops_of new.events ≡ ops_of old.events ++ (ops ++ puts)
+  pub sure : is_sure new.events ≡ is_sure old.events
 
 -- the slots below this one have the names of a disk's files
 abbrev pub AreNamed : World → List ℕ → ℕ → Type 0

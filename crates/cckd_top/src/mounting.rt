@@ -8,9 +8,9 @@ ghost use Rattle.cckd_base.specs.Geometry.{area_of, IsLayout};
 ghost use Rattle.cckd_top.specs.Opening.{IsMounted, IsBaseOf, HasSoundHeaders, HasBaseCause, HasSurveyCause};
 ghost use Rattle.cckd_base.specs.Survey.{HasNoMisfit};
 ghost use Rattle.cckd_top.specs.Opening.{ready};
-ghost use Rattle.cckd_top.specs.Run.{HasHaltCause, opening_in};
+ghost use Rattle.cckd_top.specs.Run.{HasHaltCause, HaltMakes, IsBaseSync, opening_in};
 ghost use Rattle.cckd_top.specs.Words.{is_file_word};
-ghost use Rattle.cckd_top.specs.World.{OnlyLooks};
+ghost use Rattle.cckd_top.specs.World.{MakesSome};
 
 use crate::halt::Halt;
 use crate::names::bind_all;
@@ -123,7 +123,8 @@ pub fn mount<T: Stage>(stage: &mut T, alloc: Global, base: Slot, file: &str) -> 
     ensures base { T.tells → OnOk result (file_of (T.world stage.new) 0 ≡ held_by (T.world stage.old) file.now) }
     ensures cause { IfErr result (HasHaltCause (T.tells × IsSure (T.world stage.old)) (T.world stage.old) file.now
         (T.faults stage.old) (T.faults stage.new)) }
-    ensures looks { T.tells → OnlyLooks (T.world stage.old) (T.world stage.new) }
+    ensures synced { T.tells → OnOk result (MakesSome IsBaseSync (T.world stage.old) (T.world stage.new)) }
+    ensures makes { T.tells → IfErr result (λ why. MakesSome (HaltMakes why) (T.world stage.old) (T.world stage.new)) }
     ensures fell { NoneFell (T.faults stage.old) (T.faults stage.new) }
 {
     let Ok(()) = bind_all(stage, file) else {

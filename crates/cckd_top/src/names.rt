@@ -1,12 +1,12 @@
 //! The names of a disk's files, and the slots that get them.
 
-ghost use Rattle.std.specs.Prelude.{◌≡◌, ◌+◌, ◌<◌, ◌≤◌, length, take, IsTrue, OnOk};
+ghost use Rattle.std.specs.Prelude.{◌≡◌, ◌+◌, ◌<◌, ◌≤◌, [], length, take, IsTrue, OnOk};
 ghost use Rattle.cckd_shelf.specs.Faults.{Fails};
 ghost use Rattle.cckd_shelf.specs.declared.fault.Kind.TheVariants.{Reads};
 ghost use Rattle.cckd_shelf.specs.World.{after_bind};
 ghost use Rattle.cckd_top.specs.Names.{slot_name};
 ghost use Rattle.cckd_top.specs.Words.{is_file_word};
-ghost use Rattle.cckd_top.specs.World.{OnlyLooks, AreNamed};
+ghost use Rattle.cckd_top.specs.World.{OnlyMakes, AreNamed};
 
 use cckd_script::put_bytes;
 use cckd_shelf::{Failed, Slot, Stage};
@@ -32,7 +32,7 @@ fn bind<T: Stage>(stage: &mut T, slot: Slot, file: &str) -> Result<(), Failed>
     requires { IsTrue (is_file_word file.now) }
     ensures bound { T.tells → OnOk result
         (T.world stage.new ≡ after_bind (T.world stage.old) slot (slot_name file.now slot)) }
-    ensures looks { T.tells → OnlyLooks (T.world stage.old) (T.world stage.new) }
+    ensures idle { T.tells → OnlyMakes [] (T.world stage.old) (T.world stage.new) }
     ensures fails { Fails Reads result (T.faults stage.old) (T.faults stage.new) }
 {
     let number = slot.get();
@@ -51,7 +51,7 @@ fn bind<T: Stage>(stage: &mut T, slot: Slot, file: &str) -> Result<(), Failed>
 pub fn bind_all<T: Stage>(stage: &mut T, file: &str) -> Result<(), Failed>
     requires { IsTrue (is_file_word file.now) }
     ensures named { T.tells → OnOk result (AreNamed (T.world stage.new) file.now 9) }
-    ensures looks { T.tells → OnlyLooks (T.world stage.old) (T.world stage.new) }
+    ensures idle { T.tells → OnlyMakes [] (T.world stage.old) (T.world stage.new) }
     ensures fails { Fails Reads result (T.faults stage.old) (T.faults stage.new) }
 {
     for number in 0..9u8 {

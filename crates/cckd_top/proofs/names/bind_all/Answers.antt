@@ -9,4 +9,4 @@ pub loop-number-preserved : goal.loop-number-preserved
 loop-number-preserved g c =
     bound_more _ _ (g.T.Shelf.world c.loop-number.stage) _ _ (g.T.Shelf.faults c.loop-number.stage) _ _ c.loop-number.number c.unwrap-slot.result
     c.loop-number.invariant (slot_is c.new.result c.unwrap-slot.result _ c.new.ensures c.unwrap-slot.ensures)
-    c.in_ok-bind.ensures.bound c.in_ok-bind.ensures.looks (fails_quietly _ _ _ _ c.in_ok-bind.ensures.fails)
+    c.in_ok-bind.ensures.bound c.in_ok-bind.ensures.idle (fails_quietly _ _ _ _ c.in_ok-bind.ensures.fails)
