@@ -1,5 +1,5 @@
 //! Finds and takes per second of `cckd_frames`, beside `lru` with boxed bytes. It measures where its
-//! argument is `run`, and prints nothing without it.
+//! argument is `run`, makes frames and says so where it is `make`, and prints nothing without one.
 #![tactic(auto)]
 
 ghost use Rattle.std.specs.Prelude.{◌≤◌};
@@ -118,13 +118,28 @@ fn measure(rt: &HostRuntime, count: u32) -> io::Result<()> {
     Ok(())
 }
 
+/// Makes frames, and says whether there was memory for them.
+fn make(rt: &HostRuntime) -> io::Result<()> {
+    match Frames::new(rt.alloc(), 4_096, FRAME_LEN) {
+        Ok(_) => println!(rt; "frames"),
+        Err(_) => println!(rt; "no memory"),
+    }
+}
+
 fn main(rt: HostRuntime) -> io::Result<()> {
     let mut words = env::args(&rt)?;
     let _name = words.next();
     if let Some(word) = words.next() {
-        if word.as_str() == "run" {
-            measure(&rt, 64)?;
-            measure(&rt, 4_096)?;
+        match word.as_str() {
+            "run" => {
+                measure(&rt, 64)?;
+                measure(&rt, 4_096)?;
+            }
+            "make" => {
+                make(&rt)?;
+                make(&rt)?;
+            }
+            _ => {}
         }
     }
     Ok(())

@@ -2,7 +2,7 @@
 use Rattle.std.proofs.Common.{◌≡◌, refl, sym, ◌∙◌, ap, List, [], ◌∷◌, ◌++◌, append_assoc, append-nil}
 use Rattle.std.specs.List.{AllByRecursion}
 use Rattle.cckd_shelf.specs.declared.op.Op.{Op}
-use Rattle.cckd_shelf.specs.World.{World, Event, file_now, file_of, is_sure, output_of, ops_of}
+use Rattle.cckd_shelf.specs.World.{World, Event, file_now, file_of, is_sure, ops_of}
 use Rattle.cckd_top.specs.World.{KeepsFiles, OnlyMakes, MakesSome, MakesThenPuts, OnlyTakes}
 
 pub all_twice : {X : Type 0} (P : X → Type 0) (xs ys : List X) → AllByRecursion P xs → AllByRecursion P ys → AllByRecursion P (xs ++ ys)

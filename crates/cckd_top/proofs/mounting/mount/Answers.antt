@@ -1,7 +1,7 @@
 use Rattle.std.proofs.Common.{◌∙◌, inr}
 use Rattle.cckd_shelf.specs.World.{IsSure, file_of}
 use Rattle.cckd_top.proofs.FaultLemmas.{none_fell_twice}
-use Rattle.cckd_top.proofs.MountLemmas.{after_the_sync, same_disk, synced, halt_makes, idle_makes, base_is, shadow_is, sure_still, opens, opens_not_yet, halts}
+use Rattle.cckd_top.proofs.MountLemmas.{after_the_sync, same_disk, synced, halt_makes, base_is, shadow_is, sure_still, opens, opens_not_yet, halts}
 use Rattle.cckd_top.proofs.mounting.mount.Goals as goal
 
 pub returns-in_default-opened-clause-cause : goal.returns-in_default-opened-clause-cause
