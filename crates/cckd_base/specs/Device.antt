@@ -31,6 +31,7 @@ devices =
 abbrev pub track_size_for : ℕ → ℕ
 track_size_for greatest = (37 + greatest + 511) / 512 * 512
 
+-- the geometry of a model
 abbrev pub geometry_for : Device → Geometry
 geometry_for d =
     record { devtype = d.devtype; heads = d.heads; cyls = d.cylinders; track_size = track_size_for d.greatest }
@@ -40,5 +41,6 @@ abbrev pub geometry_among : List Device → List ℕ → Option Geometry
 geometry_among [] name = None
 geometry_among (d ∷ ds) name = if bytes_eq name d.name then Some (geometry_for d) else geometry_among ds name
 
+-- the geometry of the model of this name
 abbrev pub geometry_named : List ℕ → Option Geometry
 geometry_named name = geometry_among devices name

@@ -13,6 +13,10 @@ track_count g = g.cyls * g.heads
 abbrev pub group_count : Geometry → ℕ
 group_count g = (track_count g + 255) / 256
 
+-- the greatest length of an image
+abbrev pub format_limit : ℕ
+format_limit = 2147483640
+
 -- the bytes of the two headers and of a level-one table of so many words
 abbrev pub area_of : ℕ → ℕ
 area_of groups = 1024 + 4 * groups

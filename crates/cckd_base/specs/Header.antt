@@ -12,7 +12,7 @@ use Rattle.cckd_base.specs.declared.fault.HeaderFault.TheVariants.{NotCckd, BadG
 use Rattle.cckd_base.specs.declared.fault.GeoField.TheVariants.{Heads, Cylinders, Tracks, TrackSize, Sequence}
 use Rattle.cckd_base.specs.declared.fault.CountField.TheVariants.{LevelOne, LevelTwo, Length}
 use Rattle.cckd_base.specs.Numbers.{number_at}
-use Rattle.cckd_base.specs.Geometry.{track_count, group_count, area_of, is_null_format}
+use Rattle.cckd_base.specs.Geometry.{track_count, group_count, area_of, format_limit, is_null_format}
 
 -- what the file of a base begins with
 abbrev pub base_identifier : List ℕ
@@ -30,28 +30,36 @@ headers_of file = take 1024 (file ++ replicate 1024 0)
 abbrev pub is_present : List ℕ → Bool
 is_present file = not (length file == 0) && not (nat_le 512 (length file) && list_all (λ b. b == 0) (take 512 file))
 
+-- what the file begins with
 abbrev pub identifier : List ℕ → List ℕ
 identifier headers = take 8 headers
 
--- heads, track size and cylinders stand in little-endian order in every image
+-- Heads, track size and cylinders stand in little-endian order in every image.
+-- the heads of the device
 abbrev pub header_heads : List ℕ → ℕ
 header_heads headers = number_at Little w32 headers 8
 
+-- the greatest length of a track
 abbrev pub header_track_size : List ℕ → ℕ
 header_track_size headers = number_at Little w32 headers 12
 
+-- the cylinders of the device
 abbrev pub header_cylinders : List ℕ → ℕ
 header_cylinders headers = number_at Little w32 headers 552
 
+-- the device's type
 abbrev pub header_device_type : List ℕ → ℕ
 header_device_type headers = slice_index headers 16
 
+-- the file's number within a set of files
 abbrev pub header_sequence : List ℕ → ℕ
 header_sequence headers = slice_index headers 17
 
+-- the option bits
 abbrev pub header_options : List ℕ → ℕ
 header_options headers = slice_index headers 515
 
+-- the format of null tracks
 abbrev pub header_null_format : List ℕ → ℕ
 header_null_format headers = slice_index headers 556
 
@@ -59,15 +67,19 @@ header_null_format headers = slice_index headers 556
 abbrev pub is_big : List ℕ → Bool
 is_big headers = header_options headers / 2 % 2 == 1
 
+-- the order of the image's own numbers
 abbrev pub image_order : List ℕ → Order
 image_order headers = if is_big headers then Big else Little
 
+-- the words of the level-one table
 abbrev pub level_one_count : List ℕ → ℕ
 level_one_count headers = number_at (image_order headers) w32 headers 516
 
+-- the entries of a level-two table
 abbrev pub level_two_count : List ℕ → ℕ
 level_two_count headers = number_at (image_order headers) w32 headers 520
 
+-- the geometry of the device
 abbrev pub header_geometry : List ℕ → Geometry
 header_geometry headers = record {
   devtype = header_device_type headers;
@@ -101,7 +113,7 @@ header_cases identifiers headers len =
     ∷ (nat_lt 1 (header_sequence headers), BadGeometry Sequence (header_sequence headers))
     ∷ (not (level_one_count headers == group_count (header_geometry headers)), BadCounts LevelOne (level_one_count headers))
     ∷ (not (level_two_count headers == 256), BadCounts LevelTwo (level_two_count headers))
-    ∷ (is_outside (area_of (group_count (header_geometry headers))) 2147483640 len, BadCounts Length len)
+    ∷ (is_outside (area_of (group_count (header_geometry headers))) format_limit len, BadCounts Length len)
     ∷ (not (is_null_format (header_geometry headers) (header_null_format headers)), BadNullFormat (header_null_format headers))
     ∷ []
 

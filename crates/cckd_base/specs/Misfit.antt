@@ -12,7 +12,7 @@ use Rattle.cckd_base.specs.Entry.{see_parent}
 abbrev pub is_misplaced : Layout → ℕ → ℕ → ℕ → Bool
 is_misplaced l file_len pos len = nat_lt pos (area_of l.groups) || nat_lt file_len (pos + len)
 
--- what is wrong with a level-one word by itself: it is 0, see-parent or the position of a table
+-- What is wrong with a level-one word by itself. Nothing is with 0, with see-parent in a shadow, and with the position of a table.
 abbrev pub table_misfit : Layout → ℕ → ℕ → ℕ → Option Misfit
 table_misfit l file_len group word =
     if word == 0 then None
@@ -20,11 +20,12 @@ table_misfit l file_len group word =
     else if is_misplaced l file_len word 2048 then Some (BadTable group word)
     else None
 
--- whether stored bytes have a length that their space and a table's fields can hold
+-- whether stored bytes have a length that their space or a table's fields can't hold
 abbrev pub is_missized : L2Entry → Bool
 is_missized e = e.len == 0 || nat_lt 65528 e.len || nat_lt e.size e.len
 
--- what is wrong with an entry by itself: it is null with a known format, see-parent or that of stored bytes
+-- What is wrong with an entry by itself. Nothing is with a null entry of a format of the device, with see-parent in a shadow,
+-- and with the entry of stored bytes.
 abbrev pub entry_misfit : Layout → ℕ → ℕ → L2Entry → Option Misfit
 entry_misfit l file_len t e =
     if e.pos == 0 then (if is_null_format l.geo e.len then None else Some (BadEntry t e))

@@ -33,6 +33,7 @@ Item = Result (Option Extent) Misfit
 abbrev pub space_at : ℕ → Extent → Option Extent
 space_at pos space = if pos == 0 then None else if pos == see_parent then None else Some space
 
+-- a misfit, or else the space
 abbrev pub item_of : Option Misfit → Option Extent → Item
 item_of (Some misfit) space = Err misfit
 item_of None space = Ok space
@@ -102,6 +103,7 @@ entry_items_at l file pos Nobody = []
 entry_items_at l file pos Header = []
 entry_items_at l file pos (Track t) = []
 
+-- the entries in a table that was kept
 abbrev pub entry_items_in : Layout → List ℕ → Extent → List Item
 entry_items_in l file space = entry_items_at l file space.pos space.owner
 
@@ -117,9 +119,11 @@ items l file = table_items l file ++ entry_items l file
 unfoldable pub misfits : Layout → List ℕ → List Misfit
 misfits l file = misfits_after (header_space l.groups ∷ []) (items l file)
 
+-- all tables and entries can be
 abbrev pub HasNoMisfit : Layout → List ℕ → Type 0
 HasNoMisfit l file = misfits l file ≡ []
 
+-- a space before the first one that doesn't stand below it
 abbrev pub placed_among : Extent → List Extent → List Extent
 placed_among space [] = space ∷ []
 placed_among space (e ∷ es) = if nat_le space.pos e.pos then space ∷ e ∷ es else e ∷ placed_among space es

@@ -52,6 +52,7 @@ pub record IsRecordZero (r : CountKeyData) : Type 0 where
   pub key : r.key ≡ []
   pub body : length r.body ≡ 8
 
+-- a record behind it
 pub record IsUserRecord (r : CountKeyData) : Type 0 where
   pub fits : FitsCount r
   pub number : 0 < r.number
@@ -68,6 +69,7 @@ pub record IsTrackOf (l : Layout) (t : ℕ) (bytes : List ℕ) (flag : ℕ) (rec
   pub in_order : AreRecords records
   pub fits : length bytes ≤ l.geo.track_size
 
+-- the bytes of a track: with some flag byte and some records
 abbrev pub IsTrack : Layout → ℕ → List ℕ → Type 0
 IsTrack l t bytes = (flag : ℕ) × (records : List CountKeyData) × IsTrackOf l t bytes flag records
 
@@ -104,13 +106,15 @@ null_track l t format = spelled_track l t 0 (null_records l t format)
 abbrev pub track_value : List ℕ → List ℕ
 track_value bytes = 0 ∷ drop 1 bytes
 
--- the fields of a count
+-- the fields of a count: the record's number
 abbrev pub record_number : List ℕ → ℕ
 record_number count = slice_index count 4
 
+-- the bytes of its key
 abbrev pub key_length : List ℕ → ℕ
 key_length count = slice_index count 5
 
+-- the bytes of its data
 abbrev pub body_length : List ℕ → ℕ
 body_length count = from_be_bytes w16 (take 2 (drop 6 count))
 

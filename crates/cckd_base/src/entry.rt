@@ -1,5 +1,6 @@
-ghost use Rattle.std.specs.Prelude.{◌≡◌, ◌↔◌, IsTrue};
+ghost use Rattle.std.specs.Prelude.{◌≡◌, ◌↔◌, IsTrue, if◌then◌else◌, Some, None};
 
+use crate::geometry::Geometry;
 use crate::order::Order;
 
 /// An entry of a level-two table. Position 0 is a null track, whose length field is its format.
@@ -13,11 +14,13 @@ pub struct L2Entry {
     pub size: u16,
 }
 
-/// The position of an entry whose track is looked up in the file below.
+/// The position of an entry whose track is looked up in the file below, and the level-one word of a group
+/// of such tracks.
 pub const SEE_PARENT: u32 = 0xffff_ffff;
 
 impl L2Entry {
     ghost use Rattle.cckd_base.specs.Entry.{entry_of, entry_bytes};
+    ghost use Rattle.cckd_base.specs.Geometry.{is_null_format};
 
     /// The entry that eight bytes spell.
     pub fn decode(order: Order, bytes: [u8; 8]) -> L2Entry
@@ -48,6 +51,16 @@ impl L2Entry {
         ensures { IsTrue result ↔ (self.pos ≡ 0) }
     {
         self.pos == 0
+    }
+
+    /// The format that the length field of a null entry names, where null tracks of the device have it.
+    pub fn null_format(self, geo: &Geometry) -> Option<u8>
+        ensures { result ≡ (if is_null_format geo.now self.len then Some self.len else None) }
+    {
+        match u8::try_from(self.len) {
+            Ok(format) if geo.admits(format) => Some(format),
+            _ => None,
+        }
     }
 
     /// Whether the track is looked up in the file below.

@@ -16,18 +16,24 @@ pub enum TrackFault {
 /// A field of the device header that says the geometry.
 #[derive(Clone, Copy, Debug, PartialEq, Eq)]
 pub enum GeoField {
+    /// Heads, which are the tracks of a cylinder.
     Heads,
+    /// Cylinders of the device.
     Cylinders,
     /// The product of heads and cylinders.
     Tracks,
+    /// The greatest length of a track in bytes.
     TrackSize,
+    /// The file's number within a set of files.
     Sequence,
 }
 
 /// A count that has to agree with the geometry or with the file.
 #[derive(Clone, Copy, Debug, PartialEq, Eq)]
 pub enum CountField {
+    /// The words of the level-one table, one a group.
     LevelOne,
+    /// The entries of a level-two table.
     LevelTwo,
     /// The file's length in bytes.
     Length,
@@ -38,7 +44,10 @@ pub enum CountField {
 pub enum HeaderFault {
     /// The first eight bytes, with zeros past a short file's end.
     NotCckd { id: [u8; 8] },
+    /// No device has this value of the field.
     BadGeometry { field: GeoField, value: u64 },
+    /// The value isn't the one that the geometry or the file wants.
     BadCounts { field: CountField, value: u64 },
+    /// Null tracks of the device don't have this format.
     BadNullFormat { value: u8 },
 }

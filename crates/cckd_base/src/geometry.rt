@@ -1,5 +1,5 @@
 ghost use Rattle.std.specs.Prelude.{◌≡◌, ◌<◌, ◌↔◌, IsTrue, IfSome};
-ghost use Rattle.cckd_base.specs.Geometry.{track_count, track_at, address_of, IsGeometry, IsNullFormat};
+ghost use Rattle.cckd_base.specs.Geometry.{track_count, track_at, address_of, is_null_format, IsGeometry, IsNullFormat};
 
 use crate::order::Order;
 
@@ -10,7 +10,9 @@ pub struct Track(pub u32);
 /// Where a track lies on the device.
 #[derive(Clone, Copy, Debug, PartialEq, Eq)]
 pub struct Addr {
+    /// The cylinder, counted from 0.
     pub cyl: u16,
+    /// The head within it, counted from 0.
     pub head: u16,
 }
 
@@ -22,6 +24,7 @@ pub struct Geometry {
     pub devtype: u8,
     /// Heads, which are the tracks of a cylinder.
     pub heads: u32,
+    /// Cylinders of the device.
     pub cyls: u32,
     /// The greatest length of a track in bytes.
     pub track_size: u32,
@@ -57,7 +60,8 @@ impl Geometry {
 
     /// Whether `fmt` is the format of a null track of such a device.
     pub fn admits(&self, fmt: u8) -> bool
-        ensures { IsTrue result ↔ IsNullFormat self.now fmt }
+        ensures value { result ≡ is_null_format self.now fmt }
+        ensures means { IsTrue result ↔ IsNullFormat self.now fmt }
     {
         fmt < 2
     }
@@ -66,10 +70,12 @@ impl Geometry {
 /// How an image lays its tracks out.
 #[derive(Clone, Copy, Debug, PartialEq, Eq)]
 pub struct Layout {
+    /// The order of the bytes of words, entries and counts.
     pub order: Order,
     pub geo: Geometry,
     /// Groups of 256 tracks, the last of which may be short.
     pub groups: u32,
+    /// Whether it is a shadow file, above another file.
     pub shadow: bool,
     /// The format of the null tracks of a group without a table.
     pub null_fmt: u8,

@@ -1,7 +1,7 @@
 use crate::entry::L2Entry;
 use crate::space::{Extent, Owner};
 
-/// A table or an entry that an image can't have.
+/// A table or an entry that an image can't have. Positions are bytes from the file's start.
 #[derive(Clone, Copy, Debug, PartialEq, Eq)]
 pub enum Misfit {
     /// The level-one word names a table that isn't wholly behind the header area and inside the file.
@@ -19,6 +19,8 @@ pub enum Misfit {
 pub enum ScanFault {
     /// The first misfit in the order of the survey.
     Misfit(Misfit),
+    /// A call that reads failed.
     ReadFault,
+    /// Memory was wanted.
     Memory,
 }

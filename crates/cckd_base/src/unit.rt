@@ -32,10 +32,11 @@ pub trait Unit {
         ensures written { out.new ≡ null_bytes l.now t.0 fmt ++ drop result out.old }
         ensures length { result ≡ length (null_bytes l.now t.0 fmt) };
 
-    /// A null track may be stored, so it is no longer than the track size.
+    /// A null track may be stored.
     ghost null_passes: { (l : Layout) (t format : ℕ) → IsLayout l → t < track_count l.geo
         → IsNullFormat l.geo format → fault l t (null_bytes l t format) ≡ None };
 
+    /// A null track is no longer than the track size.
     ghost null_fits: { (l : Layout) (t format : ℕ) → IsLayout l → IsNullFormat l.geo format
         → length (null_bytes l t format) ≤ l.geo.track_size };
 }
