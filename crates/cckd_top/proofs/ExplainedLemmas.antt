@@ -135,8 +135,8 @@ module _ (tells : Type 0) (w between served end : World) (name : List ℕ) (befo
             over_the_file serves.entries serves.served finishes.3,
             λ told.
                 let taken = serves.stops.0 told in
-                subst (λ (left : List ℕ). OfTheTaken w.script left serves.entries) (sym (finishes.2 told))
-                (subst (λ (s : List ℕ). OfTheTaken s served.script serves.entries) (same_script told) taken),
+                subst (λ (left : List ℕ). OfTheTaken script_limit w.script left serves.entries) (sym (finishes.2 told))
+                (subst (λ (s : List ℕ). OfTheTaken script_limit s served.script serves.entries) (same_script told) taken),
             omega (arith, serves.stops.1, fell.takes, finishes.3.takes),
           );
           printed = printed_behind tells (Rose later.puts last.puts) (Rose before.puts last.puts) w served end (script_text serves.entries) (line (codes "fault: source")) 7 code
@@ -179,10 +179,10 @@ words_named tells w w' before after words name status good is file = record {
 pub words_halt : (tells : Type 0) (w w' : World) (before after : Faults) (words : List (List ℕ)) (n status : ℕ)
     → words_fault words ≡ Some n
     → IsPrinted tells w w' (line (halt_text (halt.BadWords n))) (halt_status (halt.BadWords n)) (Rose before.puts after.puts) status
-    → (tells → KeepsFiles w w') → NoneFell before after → IsExplained tells w w' before after words status
-words_halt tells w w' before after words n status bad printed files fell = record {
+    → (tells → KeepsFiles w w') → (tells → w'.script ≡ w.script) → NoneFell before after → IsExplained tells w w' before after words status
+words_halt tells w w' before after words n status bad printed files script fell = record {
   end = halted (halt.BadWords n);
-  cause = words_are_bad n bad refl;
+  cause = words_are_bad n bad refl script;
   printed = printed;
   makes = λ t. makes_then_puts (HaltMakes (halt.BadWords n)) w w w' (idle_makes _ w w refl (only_makes_nothing w)) (files t);
   fell = fell;

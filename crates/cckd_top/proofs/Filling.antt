@@ -1,7 +1,7 @@
 -- What a room has after more of a script was taken.
 use Rattle.std.proofs.Common.{◌≡◌, ℕ, ◌+◌, ◌-◌, ◌<◌, ◌≤◌, true, false, List, [], ◌∷◌, ◌++◌, length, take, drop, refl, sym, ◌∙◌, ap, subst, arith, append_assoc, append-nil, length-append, length-drop}
 use Rattle.std.proofs.lemmas.List.{take-append-drop, length-take-le, drop-drop, drop-take, take-take}
-use Rattle.std.proofs.Math.Seq.{take-append_seam}
+use Rattle.std.proofs.Math.Seq.{take-append_seam, drop-append-add}
 use borrow.Rule.Slice.PartMut.{put_mid}
 use Rattle.cckd_shelf.specs.declared.fault.Faults.{Faults}
 use Rattle.cckd_shelf.specs.Faults.{Fails}
@@ -202,20 +202,25 @@ passes_none tells w f place going = record {
 -- the limit is met in a line that is passed
 pub passes_limit : (tells : Type 0) (old now then : World) (before after later : Faults) (first place : Place) (room : List ℕ)
     → IsPassing tells old now before after first place → place.left ≡ 0 → (tells → 0 < length now.script)
-    → tells → (behind : Place) → Passes old.script (pending room behind ++ then.script) first.left behind next.ScriptTooLong
-passes_limit tells old now then before after later first place room so_far none more told behind =
+    → (tells → then.script ≡ drop 1 now.script)
+    → tells → (behind : Place) → behind.end ≤ behind.start → Passes old.script (pending room behind ++ then.script) first.left behind next.ScriptTooLong
+passes_limit tells old now then before after later first place room so_far none more one told behind empty =
     let p = so_far.piece told in
     let all : first.left ≡ length p.0 = omega (arith, p.3, none) in (
       subst HasNoFeed (sym (ap (λ (n : ℕ). take n old.script) all ∙ ap (take (length p.0)) p.2 ∙ take-append_seam p.0 now.script)) p.1,
       omega (arith, all, ap length p.2, length-append p.0 now.script, more told),
+      ap (λ (s : List ℕ). s ++ then.script) (none_pending room behind empty) ∙ one told
+          ∙ sym (ap (λ (n : ℕ). drop (n + 1) old.script) all ∙ ap (drop (length p.0 + 1)) p.2 ∙ drop-append-add p.0 now.script 1),
+      empty,
     )
 
 -- the source fails in a line that is passed
 pub passes_broken : (tells : Type 0) (old now then : World) (before after : Faults) (first place : Place)
-    → IsPassing tells old now before after first place → (tells → then ≡ now) → tells → BreaksOff old.script then.script
+    → IsPassing tells old now before after first place → (tells → then ≡ now) → tells → BreaksOff first.left old.script then.script
 passes_broken tells old now then before after first place so_far kept told =
     let p = so_far.piece told in (
       p.0,
       p.1,
       p.2 ∙ ap (λ (w : World). p.0 ++ w.script) (sym (kept told)),
+      omega (arith, p.3),
     )

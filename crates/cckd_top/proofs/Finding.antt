@@ -2,7 +2,7 @@
 use Rattle.std.proofs.Common.{◌≡◌, ⊎_elim, ℕ, ◌+◌, ◌-◌, ◌<◌, ◌≤◌, Bool, true, false, cond, List, [], ◌∷◌, ◌++◌, length, take, drop, Result, Ok, Err, IfOk, OnErr, refl, sym, ◌∙◌, ap, subst, arith, append_assoc, append-nil, length-append}
 use Rattle.std.proofs.lemmas.Bool.{cases_lt, lt-ltb, le-ltb, false≢true}
 use Rattle.std.proofs.lemmas.List.{length-take-le}
-use Rattle.std.proofs.Math.Seq.{take-append_seam, take-append-add}
+use Rattle.std.proofs.Math.Seq.{take-append_seam, take-append-add, drop-append-add}
 use Rattle.cckd_shelf.specs.declared.fault.Faults.{Faults}
 use Rattle.cckd_shelf.specs.Faults.{Fails}
 use Rattle.cckd_shelf.specs.declared.fault.Kind.TheVariants.{Takes}
@@ -148,9 +148,10 @@ module _ (tells : Type 0) (old now : World) (before after : Faults) (first place
         (sym (so_far.same told) ∙ empty, empty, so_far.shared)
 
     -- the limit, with more of the script behind it
-    pub finds_limit : HasNoFeed (pending room place) → place.left ≡ 0 → (tells → 0 < length now.script)
-        → tells → HasNoFeed (take (allowance first) (pending begun first ++ old.script)) × (allowance first < length (pending begun first ++ old.script))
-    finds_limit none full more told =
+    pub finds_limit : (room' : List ℕ) (then : World) (behind : Place) → HasNoFeed (pending room place) → place.left ≡ 0 → (tells → 0 < length now.script)
+        → (tells → then.script ≡ drop 1 now.script) → behind.end ≤ behind.start
+        → tells → IsNext room' (pending begun first ++ old.script) (pending room' behind ++ then.script) (allowance first) behind next.ScriptTooLong
+    finds_limit room' then behind none full more one empty told =
         let text = pending begun first ++ old.script in
         let line = pending room place in
         let sized = length_pending room place so_far.within in
@@ -158,6 +159,9 @@ module _ (tells : Type 0) (old now : World) (before after : Faults) (first place
         let spelled : text ≡ line ++ now.script = sym (so_far.same told) in (
           subst HasNoFeed (sym (ap (λ (n : ℕ). take n text) all ∙ ap (take (length line)) spelled ∙ take-append_seam line now.script)) none,
           omega (arith, all, ap length spelled, length-append line now.script, more told),
+          ap (λ (s : List ℕ). s ++ then.script) (none_pending room' behind empty) ∙ one told
+              ∙ sym (ap (λ (n : ℕ). drop (n + 1) text) all ∙ ap (drop (length line + 1)) spelled ∙ drop-append-add line now.script 1),
+          empty,
         )
 
     -- the rest of a line that is too long
@@ -195,26 +199,32 @@ module _ (tells : Type 0) (old now : World) (before after : Faults) (first place
           subst HasNoFeed (sym (ap (λ (n : ℕ). take n text) all ∙ ap (take (length line + place.left)) spelled ∙ take-append-add line now.script place.left))
               (no_feed-append line (take place.left now.script) none passes.0),
           omega (arith, all, ap length spelled, length-append line now.script, passes.1),
+          passes.2
+              ∙ sym (ap (λ (n : ℕ). drop n text) (omega (arith, all)) ∙ ap (drop (length line + (place.left + 1))) spelled
+              ∙ drop-append-add line now.script (place.left + 1)),
+          passes.3,
         )
 
     -- the source fails, with nothing more taken
     pub breaks_off : (then : World) → HasNoFeed (pending room place) → (tells → then ≡ now) → tells
-        → BreaksOff (pending begun first ++ old.script) then.script
+        → BreaksOff (allowance first) (pending begun first ++ old.script) then.script
     breaks_off then none kept told = (
       pending room place,
       none,
       sym (so_far.same told) ∙ ap (λ (w : World). pending room place ++ w.script) (sym (kept told)),
+      omega (arith, so_far.shared, length_pending room place so_far.within),
     )
 
     -- the source fails in the rest of a line that is too long
-    pub breaks_off_later : (then : World) → HasNoFeed (pending room place) → (tells → BreaksOff now.script then.script) → tells
-        → BreaksOff (pending begun first ++ old.script) then.script
+    pub breaks_off_later : (then : World) → HasNoFeed (pending room place) → (tells → BreaksOff place.left now.script then.script) → tells
+        → BreaksOff (allowance first) (pending begun first ++ old.script) then.script
     breaks_off_later then none broken told =
         let more = broken told in (
           pending room place ++ more.0,
           no_feed-append (pending room place) more.0 none more.1,
           sym (so_far.same told) ∙ ap (λ (s : List ℕ). pending room place ++ s) more.2
               ∙ sym (append_assoc (pending room place) more.0 then.script),
+          omega (arith, so_far.shared, length_pending room place so_far.within, length-append (pending room place) more.0, more.3),
         )
 
 -- a fact about the value of an answer, from another one

@@ -1,8 +1,8 @@
 -- A script that is served line by line: what was asked of it so far, and what is left.
-use Rattle.std.proofs.Common.{◌≡◌, ◌⊎◌, inl, inr, ⊎_elim, ℕ, ◌+◌, ◌<◌, ◌≤◌, nat_lt, Bool, true, false, List, [], ◌∷◌, ◌++◌, length, take, refl, sym, ◌∙◌, ap, arith, append-nil, append_assoc, length-append}
+use Rattle.std.proofs.Common.{◌≡◌, ◌⊎◌, inl, inr, ⊎_elim, ℕ, ◌+◌, ◌<◌, ◌≤◌, nat_lt, Bool, true, false, List, [], ◌∷◌, ◌++◌, length, take, drop, refl, sym, ◌∙◌, ap, arith, append-nil, append_assoc, length-append}
 use Rattle.std.proofs.lemmas.Bool.{cases_lt, lt-ltb, le-ltb, cond-true, cond-false, false≢true}
 use Rattle.std.proofs.lemmas.Grind.{flat_map-append}
-use Rattle.std.proofs.Math.Seq.{take-append-add}
+use Rattle.std.proofs.Math.Seq.{take-append-add, drop-append-add}
 use Rattle.cckd_base.specs.declared.call.Call.TheVariants.{Close}
 use Rattle.cckd_script.specs.declared.misread.Item.{Item}
 use Rattle.cckd_script.specs.declared.misread.Item.TheVariants.{Asked, Misread}
@@ -84,9 +84,10 @@ module _ (limit : ℕ) (script rest : List ℕ) (left : ℕ) (ended : Bool) (ite
       )
 
   -- the script up to its limit
-  pub reads_limit : HasNoFeed (take left rest) → left < length rest
+  pub reads_limit : (rest' : List ℕ) → HasNoFeed (take left rest) → left < length rest → rest' ≡ drop (left + 1) rest
       → ((items ++ Misread misreading.ScriptTooLong ∷ []) ++ Asked Close ∷ [] ≡ script_items limit script) × (limit < length script)
-  reads_limit free more =
+      × (rest' ≡ drop (limit + 1) script)
+  reads_limit rest' free more one =
       let stops = stops_here (omega (arith, more)) in
       let long : limit < length script = omega (arith, so_far.allowed, ap length so_far.split, length-append so_far.consumed rest, more) in
       let front : take limit script ≡ so_far.consumed ++ take left rest =
@@ -100,16 +101,21 @@ module _ (limit : ℕ) (script rest : List ℕ) (left : ℕ) (ended : Bool) (ite
             ∙ sym (cond-true (nat_lt limit (length script)) (cut_items limit script) _ (lt-ltb limit (length script) long))
             ),
         long,
+        one ∙ sym (
+            ap (λ (n : ℕ). drop n script) (omega (arith, so_far.allowed)) ∙ ap (drop (length so_far.consumed + (left + 1))) so_far.split
+            ∙ drop-append-add so_far.consumed rest (left + 1)
+            ),
       )
 
   -- the lines that ended in what was taken
-  pub reads_taken : (script' : List ℕ) → BreaksOff rest script' → ended ≡ false
-      → (taken : List ℕ) × (script ≡ taken ++ script') × (items ≡ items_of_lines (ended_lines taken))
+  pub reads_taken : (script' : List ℕ) → BreaksOff left rest script' → ended ≡ false
+      → (taken : List ℕ) × (script ≡ taken ++ script') × (length taken ≤ limit) × (items ≡ items_of_lines (ended_lines taken))
   reads_taken script' broken going =
       let stops : StopsAtLine so_far.consumed = ⊎_elim (λ (h : StopsAtLine so_far.consumed). h)
       (λ (h : (rest ≡ []) × (ended ≡ true)). absurd (false≢true (sym going ∙ h.1))) so_far.stops in (
         so_far.consumed ++ broken.0,
         so_far.split ∙ ap (λ (s : List ℕ). so_far.consumed ++ s) broken.2 ∙ sym (append_assoc so_far.consumed broken.0 script'),
+        omega (arith, so_far.allowed, length-append so_far.consumed broken.0, broken.3),
         so_far.asked ∙ ap items_of_lines (sym (ended_unfed so_far.consumed broken.0 stops broken.1)),
       )
 

@@ -1,5 +1,5 @@
 -- What the loop that serves a script keeps.
-use Rattle.std.proofs.Common.{◌≡◌, ◌⊎◌, inl, inr, ℕ, ◌+◌, ◌-◌, ◌<◌, max, nat_lt, Bool, true, false, IsTrue, List, [], ◌∷◌, ◌++◌, length, map, take, drop, Result, Ok, Err, refl, sym, ◌∙◌, ap, subst, arith, append_assoc, append-nil}
+use Rattle.std.proofs.Common.{◌≡◌, ◌⊎◌, inl, inr, ℕ, ◌+◌, ◌-◌, ◌<◌, ◌≤◌, max, nat_lt, Bool, true, false, IsTrue, List, [], ◌∷◌, ◌++◌, length, map, take, drop, Result, Ok, Err, refl, sym, ◌∙◌, ap, subst, arith, append_assoc, append-nil}
 use Rattle.std.specs.List.{AllByRecursion}
 use Rattle.std.proofs.lemmas.Grind.{flat_map-append}
 use Rattle.std.proofs.lemmas.Bool.{false≢true, cond-true, lt-ltb}
@@ -28,6 +28,7 @@ use Rattle.cckd_top.specs.World.{KeepsFiles, OnlyTakes, PutsFront}
 use Rattle.cckd_top.proofs.FaultLemmas.{none_fell_twice}
 use Rattle.cckd_top.proofs.ServingLemmas.{rose_twice, rose_by_none, none_fell_same}
 use Rattle.cckd_top.proofs.WorldLemmas.{all_twice, keeps_files_twice, keeps_files_same, takes_keeps, takes_file}
+use Rattle.cckd_top.proofs.Filling.{none_pending}
 use Rattle.cckd_top.proofs.ScriptLemmas.{IsReadUpTo, reads_none, reads_on, reads_all, reads_limit, reads_taken, reads_front}
 
 faults_twice : (es fs : List Entry) → read_faults (es ++ fs) ≡ read_faults es + read_faults fs
@@ -118,13 +119,13 @@ module _ (limit : ℕ) (script rest rest' room : List ℕ) (left : ℕ) (ended :
     reads_next next.ScriptTooLong is going = absurd (false≢true (sym going))
     reads_next next.End is going = absurd (false≢true (sym going))
 
-    pub reads_last : (left_of_it : List ℕ) (found : Next) → (rest' ≡ [] → left_of_it ≡ []) → IsNext room rest rest' left behind found → is_last found ≡ true
-        → ((items ++ items_of_next room found) ++ Asked Close ∷ [] ≡ script_items limit script) × ((left_of_it ≡ []) ⊎ (limit < length script))
-    reads_last left_of_it (next.Line start end) none is over = absurd (false≢true over)
-    reads_last left_of_it next.LineTooLong none is over = absurd (false≢true over)
-    reads_last left_of_it next.ScriptTooLong none is over =
-        let all = reads_limit limit script rest left ended items so_far is.0 is.1 in (all.0, inr all.1)
-    reads_last left_of_it next.End none is over = (
+    pub reads_last : (left_of_it : List ℕ) (found : Next) → (rest' ≡ [] → left_of_it ≡ []) → (behind.end ≤ behind.start → left_of_it ≡ rest') → IsNext room rest rest' left behind found → is_last found ≡ true
+        → ((items ++ items_of_next room found) ++ Asked Close ∷ [] ≡ script_items limit script) × ((left_of_it ≡ []) ⊎ ((limit < length script) × (left_of_it ≡ drop (limit + 1) script)))
+    reads_last left_of_it (next.Line start end) none same is over = absurd (false≢true over)
+    reads_last left_of_it next.LineTooLong none same is over = absurd (false≢true over)
+    reads_last left_of_it next.ScriptTooLong none same is over =
+        let all = reads_limit limit script rest left ended items so_far rest' is.0 is.1 is.2 in (all.0, inr (all.1, same is.3 ∙ all.2))
+    reads_last left_of_it next.End none same is over = (
       ap (λ (s : List Item). s ++ Asked Close ∷ []) (append-nil items) ∙ reads_all limit script rest left ended items so_far is.0,
       inl (none is.1),
     )
@@ -136,9 +137,9 @@ module _ (limit : ℕ) (script rest rest' room : List ℕ) (left : ℕ) (ended :
     reads_some next.LineTooLong is =
         reads_front limit script rest' (allowance behind) behind.ended (items ++ items_of_next room next.LineTooLong) (reads_next next.LineTooLong is refl)
     reads_some next.ScriptTooLong is =
-        (Asked Close ∷ [], (reads_last rest' next.ScriptTooLong (λ e. e) is refl).0)
+        (Asked Close ∷ [], (reads_last rest' next.ScriptTooLong (λ e. e) (λ _. refl) is refl).0)
     reads_some next.End is =
-        (Asked Close ∷ [], (reads_last rest' next.End (λ e. e) is refl).0)
+        (Asked Close ∷ [], (reads_last rest' next.End (λ e. e) (λ _. refl) is refl).0)
 
 -- what was legal over the file of a later world is so over that of the first
 served_earlier : (tells : Type 0) (l : Layout) (w now : World) (a b : Faults) (es : List Entry)
@@ -287,12 +288,14 @@ module _ (tells : Type 0) (l : Layout) (limit : ℕ) (w now between then : World
                 (file_then (Ok answer) serves)
                 closes.served)
 
-            of_the_script : tells → (map item_of every_entry ≡ script_items limit w.script) × ((end.script ≡ []) ⊎ (limit < length w.script))
+            of_the_script : tells → (map item_of every_entry ≡ script_items limit w.script) × ((end.script ≡ []) ⊎ ((limit < length w.script) × (end.script ≡ drop (limit + 1) w.script)))
             unfolding every_entry all_entries
             of_the_script told =
                 let all = reads_last limit w.script (pending room place ++ now.script) (pending room' behind ++ between.script) room' (allowance place)
                 place.ended (map item_of so_far.entries) behind (so_far.read told) end.script found
-                (λ none. closes.script told ∙ serves.script told ∙ none_behind (pending room' behind) between.script none) (is_next told) over in (
+                (λ none. closes.script told ∙ serves.script told ∙ none_behind (pending room' behind) between.script none)
+                (λ empty. closes.script told ∙ serves.script told ∙ sym (ap (λ (s : List ℕ). s ++ between.script) (none_pending room' behind empty)))
+                (is_next told) over in (
                   map-append item_of (so_far.entries ++ serves.entries) closes.entries
                       ∙ ap (λ (s : List Item). s ++ map item_of closes.entries)
                       (all_asked (Ok answer) serves)
@@ -363,7 +366,7 @@ module _ (tells : Type 0) (l : Layout) (limit : ℕ) (w now between then : World
 -- the source failed
 pub is_unscripted : (tells : Type 0) (l : Layout) (limit : ℕ) (w now between : World) (before after asked : Faults) (begun room : List ℕ)
     (place : Place) (status : ℕ) → IsServing tells (tells × IsSure w) l (file_of w 0) limit w now before after begun room place status
-    → (tells → BreaksOff (pending room place ++ now.script) between.script) → place.ended ≡ false → (tells → OnlyTakes now between)
+    → (tells → BreaksOff (allowance place) (pending room place ++ now.script) between.script) → place.ended ≡ false → (tells → OnlyTakes now between)
     → NoneFell after asked → Rose after.takes asked.takes
     → ServesScript tells (tells × IsSure w) l (file_of w 0) limit w between before asked stop.Unscripted
 is_unscripted tells l limit w now between before after asked begun room place status so_far broken going only fell rose = record {
@@ -373,7 +376,7 @@ is_unscripted tells l limit w now between before after asked begun room place st
     λ told.
         let taken = reads_taken limit w.script (pending room place ++ now.script) (allowance place) place.ended (map item_of so_far.entries)
         (so_far.read told) between.script (broken told) going in
-        record { taken = taken.0; split = taken.1; asked = taken.2 },
+        record { taken = taken.0; split = taken.1; within = taken.2; asked = taken.3 },
     omega (arith, rose, so_far.fell.takes),
     (λ told. ap output_of (only told).events ∙ so_far.said told, refl),
   );

@@ -55,21 +55,27 @@ pub record IsLine (line text rest : List ℕ) (before after : ℕ) (ended : Bool
   pub some : 0 < length text
   pub shared : before + length rest ≡ after + length text
 
--- what comes next in a text, and what is behind it
+-- nothing is pending
+abbrev pub IsEmpty : Place → Type 0
+IsEmpty place = place.end ≤ place.start
+
+-- What comes next in a text, and what is behind it. Of a script that is too long one byte past the limit was taken.
 abbrev pub IsNext : List ℕ → List ℕ → List ℕ → ℕ → Place → Next → Type 0
 IsNext room text rest before place (next.Line start end) =
     IsLine (take (end - start) (drop start room)) text rest before (allowance place) place.ended × (end - start ≤ 131072)
 IsNext room text rest before place next.LineTooLong =
     (line : List ℕ) × IsLine line text rest before (allowance place) place.ended × (131072 < length line)
-IsNext room text rest before place next.ScriptTooLong = HasNoFeed (take before text) × (before < length text)
+IsNext room text rest before place next.ScriptTooLong =
+    HasNoFeed (take before text) × (before < length text) × (rest ≡ drop (before + 1) text) × IsEmpty place
 IsNext room text rest before place next.End = (text ≡ []) × (rest ≡ []) × (allowance place ≡ before)
 
--- the rest of a line that is too long is passed, or the limit
+-- the rest of a line that is too long is passed, or the limit and a byte behind it
 abbrev pub Passes : List ℕ → List ℕ → ℕ → Place → Next → Type 0
 Passes text rest before place (next.Line start end) = ⊥
 Passes text rest before place next.LineTooLong =
     (line : List ℕ) × BeginsWith line text rest place.ended × (before + length rest ≡ allowance place + length text)
-Passes text rest before place next.ScriptTooLong = HasNoFeed (take before text) × (before < length text)
+Passes text rest before place next.ScriptTooLong =
+    HasNoFeed (take before text) × (before < length text) × (rest ≡ drop (before + 1) text) × IsEmpty place
 Passes text rest before place next.End = ⊥
 
 -- a line of so many bytes in a room is handed out, or it is too long
@@ -97,6 +103,6 @@ Advances before after next.LineTooLong = after < before
 Advances before after next.ScriptTooLong = ⊤
 Advances before after next.End = ⊤
 
--- the beginning of a text was taken up to here, and no line of it ends there
-abbrev pub BreaksOff : List ℕ → List ℕ → Type 0
-BreaksOff text left = (partial : List ℕ) × HasNoFeed partial × (text ≡ partial ++ left)
+-- the beginning of a text, within the limit, was taken up to here, and no line of it ends there
+abbrev pub BreaksOff : ℕ → List ℕ → List ℕ → Type 0
+BreaksOff limit text left = (partial : List ℕ) × HasNoFeed partial × (text ≡ partial ++ left) × (length partial ≤ limit)

@@ -72,13 +72,13 @@ HasFileCause tells told w w' name before after (halted why) =
 HasFileCause tells told w w' name before after (closed entries) =
     OverTheFile told w name before after entries × (tells → OfTheScript script_limit w.script w'.script entries)
 HasFileCause tells told w w' name before after (unscripted entries) =
-    OverTheFile told w name before after entries × (tells → OfTheTaken w.script w'.script entries) × Rose before.takes after.takes
+    OverTheFile told w name before after entries × (tells → OfTheTaken script_limit w.script w'.script entries) × Rose before.takes after.takes
 HasFileCause tells told w w' name before after (cut entries) =
     OverTheFile told w name before after entries × (tells → OfAFront script_limit w.script entries)
 
 -- why a run ends so: the words are wrong, or they name a file
 pub data HasCause (tells told : Type 0) (w w' : World) (words : List (List ℕ)) (before after : Faults) (end : Ending) : Type 0 where
-  words_are_bad : (n : ℕ) → words_fault words ≡ Some n → end ≡ halted (halt.BadWords n)
+  words_are_bad : (n : ℕ) → words_fault words ≡ Some n → end ≡ halted (halt.BadWords n) → (tells → w'.script ≡ w.script)
       → HasCause tells told w w' words before after end
   file_is_named : words_fault words ≡ None → HasFileCause tells told w w' (file_word words) before after end
       → HasCause tells told w w' words before after end

@@ -91,20 +91,21 @@ pub record Serves (tells told : Type 0) (l : Layout) (file : List ℕ) (old new 
   pub slot : tells → file_of new 0 ≡ file_of old 0
   pub fell : NoneFell before after
 
--- the entries are those of the lines that ended in what was taken of the script
-pub record OfTheTaken (script left : List ℕ) (entries : List Entry) : Type 0 where
+-- the entries are those of the lines that ended in what was taken of the script, within its limit
+pub record OfTheTaken (limit : ℕ) (script left : List ℕ) (entries : List Entry) : Type 0 where
   pub taken : List ℕ
   pub split : script ≡ taken ++ left
+  pub within : length taken ≤ limit
   pub asked : map item_of entries ≡ items_of_lines (ended_lines taken)
 
 -- the entries are of a front of the script's items
 abbrev pub OfAFront : ℕ → List ℕ → List Entry → Type 0
 OfAFront limit script entries = (more : List Item) × (map item_of entries ++ more ≡ script_items limit script)
 
--- the entries are those of the whole script, which was read to its end or to its limit
+-- the entries are those of the whole script, which was read to its end, or to its limit and one byte further
 pub record OfTheScript (limit : ℕ) (script left : List ℕ) (entries : List Entry) : Type 0 where
   pub asked : map item_of entries ≡ script_items limit script
-  pub read : (left ≡ []) ⊎ (limit < length script)
+  pub read : (left ≡ []) ⊎ ((limit < length script) × (left ≡ drop (limit + 1) script))
 
 -- the items of what comes next in a script
 abbrev pub items_of_next : List ℕ → Next → List Item
@@ -126,7 +127,7 @@ abbrev pub StopsBy : Type 0 → ℕ → World → World → Faults → Faults �
 StopsBy tells limit w w' before after entries (stop.Closed status) =
     (tells → OfTheScript limit w.script w'.script entries) × AreSaid tells w w' before after entries (Ok status)
 StopsBy tells limit w w' before after entries stop.Unscripted =
-    (tells → OfTheTaken w.script w'.script entries) × Rose before.takes after.takes × AreSaid tells w w' before after entries (Ok (worst entries))
+    (tells → OfTheTaken limit w.script w'.script entries) × Rose before.takes after.takes × AreSaid tells w w' before after entries (Ok (worst entries))
 StopsBy tells limit w w' before after entries stop.Cut =
     (tells → OfAFront limit w.script entries) × AreSaid tells w w' before after entries (Err (record {}))
 

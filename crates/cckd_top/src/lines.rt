@@ -1,6 +1,6 @@
 //! The script, line by line, as it is taken into a room.
 
-ghost use Rattle.std.specs.Prelude.{◌≡◌, ℕ, ◌+◌, ◌-◌, ◌<◌, ◌≤◌, ◌++◌, false, length, position, [], IfOk, IfErr, IfSome, IfNone, OnErr};
+ghost use Rattle.std.specs.Prelude.{◌≡◌, ℕ, ◌+◌, ◌-◌, ◌<◌, ◌≤◌, ◌++◌, false, length, drop, position, [], IfOk, IfErr, IfSome, IfNone, OnErr};
 ghost use Rattle.cckd_shelf.specs.Faults.{Fails};
 ghost use Rattle.cckd_shelf.specs.declared.fault.Kind.TheVariants.{Takes};
 ghost use Rattle.cckd_top.specs.Lines.{is_feed, IsPlace, IsAtEnd, Grows, TakesMore, IsNext, Passes, LiesIn, IsShort, Advances, BreaksOff, pending, allowance, line_next};
@@ -73,6 +73,8 @@ fn take_more<T: Stage>(
     ensures past { IfOk result (λ taken. IfNone taken (place.left ≡ 0)) }
     ensures room { length room.new ≡ length room.old }
     ensures some { T.tells → IfOk result (λ taken. IfNone taken (0 < length (T.world stage.old).script)) }
+    ensures one { T.tells → IfOk result (λ taken. IfNone taken
+        ((T.world stage.new).script ≡ drop 1 (T.world stage.old).script)) }
     ensures only { T.tells → OnlyTakes (T.world stage.old) (T.world stage.new) }
     ensures kept { T.tells → OnErr result (T.world stage.new ≡ T.world stage.old) }
     ensures fails { Fails Takes result (T.faults stage.old) (T.faults stage.new) }
@@ -112,7 +114,7 @@ fn pass_line<T: Stage>(
     ensures short { IfOk result (λ found. IsShort found.0) }
     ensures left { IfOk result (λ found. allowance found.1 ≤ place.left) }
     ensures room { length room.new ≡ length room.old }
-    ensures broken { T.tells → OnErr result (BreaksOff (T.world stage.old).script (T.world stage.new).script) }
+    ensures broken { T.tells → OnErr result (BreaksOff place.left (T.world stage.old).script (T.world stage.new).script) }
     ensures only { T.tells → OnlyTakes (T.world stage.old) (T.world stage.new) }
     ensures fails { Fails Takes result (T.faults stage.old) (T.faults stage.new) }
 {
@@ -185,7 +187,7 @@ pub fn next_line<T: Stage>(
     ensures short { IfOk result (λ found. IsShort found.0) }
     ensures advances { IfOk result (λ found. Advances (allowance place) (allowance found.1) found.0) }
     ensures broken { T.tells → OnErr result
-        (BreaksOff (pending room.old place ++ (T.world stage.old).script) (T.world stage.new).script) }
+        (BreaksOff (allowance place) (pending room.old place ++ (T.world stage.old).script) (T.world stage.new).script) }
     ensures going_on { OnErr result (place.ended ≡ false) }
     ensures only { T.tells → OnlyTakes (T.world stage.old) (T.world stage.new) }
     ensures fails { Fails Takes result (T.faults stage.old) (T.faults stage.new) }
@@ -207,7 +209,11 @@ pub fn next_line<T: Stage>(
         }
         place = moved_to_front(room, place);
         let Some(taken) = take_more(stage, room, place)? else {
-            return Ok((Next::ScriptTooLong, place));
+            let behind = Place {
+                start: place.end,
+                ..place
+            };
+            return Ok((Next::ScriptTooLong, behind));
         };
         place = taken;
     }

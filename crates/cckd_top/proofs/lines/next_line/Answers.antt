@@ -1,4 +1,4 @@
-use Rattle.std.proofs.Common.{◌≡◌, ◌<◌, ◌-◌, ◌++◌, length, Option, IfNone, MatchOption, ℕ, ◌∙◌, sym, ap, subst, arith}
+use Rattle.std.proofs.Common.{◌≡◌, ◌<◌, ◌-◌, ◌++◌, length, drop, Option, IfNone, MatchOption, ℕ, ◌∙◌, sym, ap, subst, arith}
 use Rattle.std.proofs.lemmas.Bool.{false≢true}
 use Rattle.cckd_top.specs.declared.lines.Place.{Place}
 use Rattle.cckd_top.specs.declared.lines.Next.{Next}
@@ -62,7 +62,7 @@ returns-then-len-gt-LINE_LIMIT-clause-broken g c = λ told.
     let text = pending c.loop-at.room place in
     let none = subst (λ (o : Option ℕ). MatchOption o (HasNoFeed text) (IsFirstFeed text)) c.in_default.is
     (feed_found text c.first_feed.result c.first_feed.ensures) in
-    on_err_map (BreaksOff (g.T.Shelf.world c.loop-at.stage).script (g.T.Shelf.world c.pass_line.new.stage).script) _ c.pass_line.result (c.pass_line.ensures.broken told)
+    on_err_map (BreaksOff c.loop-at.place.left (g.T.Shelf.world c.loop-at.stage).script (g.T.Shelf.world c.pass_line.new.stage).script) _ c.pass_line.result (c.pass_line.ensures.broken told)
     (λ broken. breaks_off_later _ _ _ _ _ _ _ _ _ c.loop-at.invariant (g.T.Shelf.world c.pass_line.new.stage) none (λ _. broken) told)
 
 pub returns-in_err-taken-clause-broken : goal.returns-in_err-taken-clause-broken
@@ -79,8 +79,10 @@ returns-in_default-2-clause-next g c = λ told.
     let text = pending c.loop-at.room place in
     let none = subst (λ (o : Option ℕ). MatchOption o (HasNoFeed text) (IsFirstFeed text)) c.in_default.is
     (feed_found text c.first_feed.result c.first_feed.ensures) in
-    finds_limit _ _ _ _ _ _ _ _ _ c.loop-at.invariant none
+    finds_limit _ _ _ _ _ _ _ _ _ c.loop-at.invariant c.take_more.new.room (g.T.Shelf.world c.take_more.new.stage)
+    (record c.moved_to_front-place.result { start = c.moved_to_front-place.result.end }) none
     (sym (ap (λ (p : Place). p.left) c.moved_to_front-place.ensures.end)
     ∙ subst (λ (o : Option Place). IfNone o (c.moved_to_front-place.result.left ≡ 0)) c.in_default-2.is c.in_ok-taken.ensures.past)
     (λ t. subst (λ (o : Option Place). IfNone o (0 < length (g.T.Shelf.world c.loop-at.stage).script)) c.in_default-2.is (c.in_ok-taken.ensures.some t))
-    told
+    (λ t. subst (λ (o : Option Place). IfNone o ((g.T.Shelf.world c.take_more.new.stage).script ≡ drop 1 (g.T.Shelf.world c.loop-at.stage).script)) c.in_default-2.is (c.in_ok-taken.ensures.one t))
+    (omega arith) told

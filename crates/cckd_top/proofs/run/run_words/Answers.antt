@@ -8,4 +8,4 @@ returns-in-Ok g c =
 pub returns-in-Err : goal.returns-in-Err
 returns-in-Err g c =
     words_halt g.T.Shelf.tells _ _ _ _ _ c.in-Err.number c.end_halted.result c.in-Err.ensures.fault c.end_halted.ensures.printed c.end_halted.ensures.files
-    c.end_halted.ensures.fell
+    c.end_halted.ensures.script c.end_halted.ensures.fell
