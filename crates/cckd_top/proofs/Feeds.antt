@@ -1,13 +1,14 @@
 -- Line feeds in a text, and what was taken behind what is pending.
-use Rattle.std.proofs.Common.{◌≡◌, ◌≢◌, ℕ, suc, ◌+◌, ◌<◌, ◌≤◌, Bool, true, false, cond, not, one-add, List, [], ◌∷◌, ◌++◌, length, take, drop, position, get_or, Option, Some, None, MatchOption, refl, sym, ◌∙◌, ap, subst, arith, ⊎_elim}
+use Rattle.std.proofs.Common.{◌≡◌, ◌≢◌, ℕ, suc, ◌+◌, ◌<◌, ◌≤◌, Bool, true, false, cond, not, one-add, List, [], ◌∷◌, ◌++◌, length, take, drop, position, get_or, Option, Some, None, MatchOption, refl, sym, ◌∙◌, ap, subst, arith, append_assoc, ⊎_elim}
 use Rattle.std.specs.List.{position_or_len}
 use Rattle.std.proofs.lemmas.Bool.{cases_lt, lt-ltb, le-ltb, eq-eqb, false≢true}
 use Rattle.std.proofs.lemmas.Bool.Decides.{nat_tests}
-use Rattle.std.proofs.lemmas.List.{take-append-le, length-take-le, drop-take, drop-append-le}
+use Rattle.std.proofs.lemmas.List.{take-append-le, take-append-drop, length-take-le, length-drop, drop-take, drop-drop, drop-append-le}
 use Rattle.std.proofs.lemmas.List.Sums.{split_at_first, passes_at_first}
-use Rattle.std.proofs.Math.Seq.{take-append-add}
+use Rattle.std.proofs.Math.Seq.{take-add, take-append-add}
 use borrow.Rule.Slice.PartMut.{put_mid, post_of}
 use Rattle.cckd_script.specs.Lines.{HasNoFeed}
+use Rattle.cckd_script.proofs.LineLemmas.{no_feed-append}
 use Rattle.cckd_top.specs.Lines.{is_feed, IsFirstFeed}
 
 -- a byte that ends no line isn't a line feed
@@ -57,6 +58,26 @@ feed_found text found e = ⊎_elim
     (sym (e ∙ ap (λ (b : Bool). cond b (Some n) None) (le-ltb n (length text) more)))
     (none_at_all text more))
     (cases_lt (position_or_len is_feed text) (length text))
+
+-- the same of a text whose front was searched before
+pub no_feed_behind : (text : List ℕ) (seen : ℕ) → HasNoFeed (take seen text) → HasNoFeed (drop seen text) → HasNoFeed text
+no_feed_behind text seen front behind =
+    subst HasNoFeed (take-append-drop seen text) (no_feed-append (take seen text) (drop seen text) front behind)
+
+pub feed_behind : (text : List ℕ) (seen at : ℕ) → seen ≤ length text → HasNoFeed (take seen text) → IsFirstFeed (drop seen text) at
+    → IsFirstFeed text (seen + at)
+feed_behind text seen at within front feed =
+    let front_is : take (seen + at) text ≡ take seen text ++ take at (drop seen text) = take-add seen at text in
+    record {
+      within = omega (arith, within, feed.within, length-drop seen text);
+      before = subst HasNoFeed (sym front_is) (no_feed-append (take seen text) (take at (drop seen text)) front feed.before);
+      split =
+          sym (take-append-drop seen text) ∙ ap (λ (s : List ℕ). take seen text ++ s) feed.split
+          ∙ sym (append_assoc (take seen text) (take at (drop seen text)) (10 ∷ drop (at + 1) (drop seen text)))
+          ∙ ap (λ (s : List ℕ). s ++ 10 ∷ drop (at + 1) (drop seen text)) (sym front_is)
+          ∙ ap (λ (s : List ℕ). take (seen + at) text ++ 10 ∷ s)
+          (drop-drop (at + 1) seen text ∙ ap (λ (n : ℕ). drop n text) (omega arith));
+    }
 
 -- what stands at the front after a piece was written behind it
 put_front : (n m k : ℕ) (into piece : List ℕ) → n ≤ length into → m ≤ length piece

@@ -49,6 +49,24 @@ length_pending room place is =
     length-take-le (place.end - place.start) (drop place.start room)
     (omega (arith, length-drop place.start room, is.order, is.within))
 
+-- what was pending stands at the front of what is pending then
+pub front_stays : (room into : List ℕ) (place after : Place) (count k : ℕ)
+    → IsPlace room place → count ≤ length into → after.start ≡ place.start → after.end ≡ place.end + count
+    → take (place.end - place.start) (pending (put_mid place.end k room into) after) ≡ pending room place
+front_stays room into place after count k is fits start end =
+    let p = place.end - place.start in
+    let seam : place.start + p ≡ place.end = omega (arith, is.order) in
+    let put : take (p + count) (drop place.start (put_mid place.end k room into)) ≡ pending room place ++ take count into =
+    subst (λ (n : ℕ). take (p + count) (drop place.start (put_mid n k room into)) ≡ pending room place ++ take count into) seam
+    (put_behind place.start p count k room into (omega (arith, is.order, is.within)) fits) in
+    let long : after.end - after.start ≡ p + count = omega (arith, is.order, start, end) in
+    ap (take p) (
+    ap (λ (n : ℕ). take n (drop after.start (put_mid place.end k room into))) long
+    ∙ ap (λ (n : ℕ). take (p + count) (drop n (put_mid place.end k room into))) start ∙ put
+    )
+    ∙ ap (λ (n : ℕ). take n (pending room place ++ take count into)) (sym (length_pending room place is))
+    ∙ take-append_seam (pending room place) (take count into)
+
 -- what is pending further behind
 pub pending_behind : (room : List ℕ) (place behind : Place) (k : ℕ) → IsPlace room place → place.start + k ≤ place.end
     → behind.start ≡ place.start + k → behind.end ≡ place.end → pending room behind ≡ drop k (pending room place)

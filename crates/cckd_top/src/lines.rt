@@ -1,9 +1,10 @@
 //! The script, line by line, as it is taken into a room.
 
-ghost use Rattle.std.specs.Prelude.{◌≡◌, ℕ, ◌+◌, ◌-◌, ◌<◌, ◌≤◌, ◌++◌, false, length, drop, position, [], IfOk, IfErr, IfSome, IfNone, OnErr};
+ghost use Rattle.std.specs.Prelude.{◌≡◌, ℕ, ◌+◌, ◌-◌, ◌<◌, ◌≤◌, ◌++◌, false, length, take, drop, position, MatchOption, [], IfOk, IfErr, IfSome, IfNone, OnErr};
 ghost use Rattle.cckd_shelf.specs.Faults.{Fails};
 ghost use Rattle.cckd_shelf.specs.declared.fault.Kind.TheVariants.{Takes};
-ghost use Rattle.cckd_top.specs.Lines.{is_feed, IsPlace, IsAtEnd, Grows, TakesMore, IsNext, Passes, LiesIn, IsShort, Advances, BreaksOff, pending, allowance, line_next};
+ghost use Rattle.cckd_script.specs.Lines.{HasNoFeed};
+ghost use Rattle.cckd_top.specs.Lines.{is_feed, IsFirstFeed, IsPlace, IsAtEnd, Grows, TakesMore, IsNext, Passes, LiesIn, IsShort, Advances, BreaksOff, pending, allowance, line_next};
 ghost use Rattle.cckd_top.specs.World.{OnlyTakes};
 
 use cckd_script::LINE_LIMIT;
@@ -41,6 +42,18 @@ fn first_feed(text: &[u8]) -> Option<usize>
     text.iter().position(|b| *b == b'\n')
 }
 
+/// Where the first line feed of a text stands, whose first `seen` bytes are known to have none.
+fn feed_behind(text: &[u8], seen: usize) -> Option<usize>
+    requires within { seen ≤ length text.now }
+    requires searched { HasNoFeed (take seen text.now) }
+    ensures { MatchOption result (HasNoFeed text.now) (IsFirstFeed text.now) }
+{
+    match first_feed(&text[seen..]) {
+        Some(at) => Some(seen + at),
+        None => None,
+    }
+}
+
 /// Moves what is pending to the front of the room.
 fn moved_to_front(room: &mut [u8], place: Place) -> Place
     requires { IsPlace room.old place }
@@ -48,6 +61,9 @@ fn moved_to_front(room: &mut [u8], place: Place) -> Place
     ensures pending { pending room.new result ≡ pending room.old place }
     ensures end { result ≡ record place { start = 0; end = place.end - place.start } }
 {
+    if place.start == 0 {
+        return place;
+    }
     room.copy_within(place.start..place.end, 0);
     Place {
         start: 0,
@@ -70,6 +86,8 @@ fn take_more<T: Stage>(
     ensures grows { IfOk result (λ taken. IfSome taken (Grows place)) }
     ensures takes { T.tells → IfOk result (λ taken. IfSome taken (λ after. TakesMore room.old room.new place after
         (T.world stage.old).script (T.world stage.new).script)) }
+    ensures front { IfOk result (λ taken. IfSome taken (λ after.
+        take (place.end - place.start) (pending room.new after) ≡ pending room.old place)) }
     ensures past { IfOk result (λ taken. IfNone taken (place.left ≡ 0)) }
     ensures room { length room.new ≡ length room.old }
     ensures some { T.tells → IfOk result (λ taken. IfNone taken (0 < length (T.world stage.old).script)) }
@@ -129,7 +147,7 @@ fn pass_line<T: Stage>(
             return Ok((Next::ScriptTooLong, place));
         };
         place = taken;
-        if let Some(at) = first_feed(&room[place.start..place.end]) {
+        if let Some(at) = feed_behind(&room[place.start..place.end], 0) {
             let behind = Place {
                 start: place.start + at + 1,
                 ..place
@@ -193,9 +211,10 @@ pub fn next_line<T: Stage>(
     ensures fails { Fails Takes result (T.faults stage.old) (T.faults stage.new) }
 {
     let mut place = place;
+    let mut seen = 0;
     loop {
         let len = place.end - place.start;
-        if let Some(at) = first_feed(&room[place.start..place.end]) {
+        if let Some(at) = feed_behind(&room[place.start..place.end], seen) {
             return Ok(cut_off(place, at, at + 1));
         }
         if place.ended && len == 0 {
@@ -207,6 +226,7 @@ pub fn next_line<T: Stage>(
         if len > LINE_LIMIT {
             return pass_line(stage, room, place);
         }
+        seen = len;
         place = moved_to_front(room, place);
         let Some(taken) = take_more(stage, room, place)? else {
             let behind = Place {

@@ -3,12 +3,11 @@ use Rattle.cckd_top.specs.declared.lines.Place.{Place}
 use Rattle.cckd_script.specs.Lines.{HasNoFeed}
 use Rattle.cckd_top.specs.Lines.{IsFirstFeed, IsPlace, Grows, TakesMore, pending}
 use Rattle.cckd_top.proofs.FaultLemmas.{fails_quietly}
-use Rattle.cckd_top.proofs.Feeds.{feed_found}
 use Rattle.cckd_top.proofs.Filling.{passes_on, passes_feed, passes_end}
 use Rattle.cckd_top.proofs.lines.pass_line.Goals as goal
 
-pub returns-in-Some-first_feed-clause-passes : goal.returns-in-Some-first_feed-clause-passes
-returns-in-Some-first_feed-clause-passes g c = λ told.
+pub returns-in-Some-feed_behind-clause-passes : goal.returns-in-Some-feed_behind-clause-passes
+returns-in-Some-feed_behind-clause-passes g c = λ told.
     let room = c.take_more.new.room in
     let taken = c.in-Some.taken in
     let text = pending room taken in
@@ -21,9 +20,9 @@ returns-in-Some-first_feed-clause-passes g c = λ told.
     (λ t. subst (λ (o : Option Place). IfSome o (λ after. TakesMore c.loop-taken.room room
     (record c.loop-taken.place { start = 0; end = 0 }) after (g.T.Shelf.world c.loop-taken.stage).script
     (g.T.Shelf.world c.take_more.new.stage).script)) c.in-Some.is (c.in_ok-taken.ensures.takes t))
-    (record taken { start = taken.start + c.in-Some-first_feed.at + 1 }) c.in-Some-first_feed.at
-    (subst (λ (o : Option ℕ). MatchOption o (HasNoFeed text) (IsFirstFeed text)) c.in-Some-first_feed.is
-    (feed_found text c.first_feed.result c.first_feed.ensures))
+    (record taken { start = taken.start + c.in-Some-feed_behind.at + 1 }) c.in-Some-feed_behind.at
+    (subst (λ (o : Option ℕ). MatchOption o (HasNoFeed text) (IsFirstFeed text)) c.in-Some-feed_behind.is
+    c.feed_behind.ensures)
     refl refl refl told
 
 pub returns-then-place-clause-passes : goal.returns-then-place-clause-passes
@@ -41,8 +40,8 @@ returns-then-place-clause-passes g c = λ told.
     (record c.loop-taken.place { start = 0; end = 0 }) after (g.T.Shelf.world c.loop-taken.stage).script
     (g.T.Shelf.world c.take_more.new.stage).script)) c.in-Some.is (c.in_ok-taken.ensures.takes t))
     (record taken { start = taken.end })
-    (subst (λ (o : Option ℕ). MatchOption o (HasNoFeed text) (IsFirstFeed text)) c.in_default-first_feed.is
-    (feed_found text c.first_feed.result c.first_feed.ensures))
+    (subst (λ (o : Option ℕ). MatchOption o (HasNoFeed text) (IsFirstFeed text)) c.in_default-feed_behind.is
+    c.feed_behind.ensures)
     c.if-place.true refl refl refl refl told
 
 pub loop-taken-preserved : goal.loop-taken-preserved
@@ -59,8 +58,8 @@ loop-taken-preserved g c =
           (λ t. subst (λ (o : Option Place). IfSome o (λ after. TakesMore c.loop-taken.room room
           (record c.loop-taken.place { start = 0; end = 0 }) after (g.T.Shelf.world c.loop-taken.stage).script
           (g.T.Shelf.world c.take_more.new.stage).script)) c.in-Some.is (c.in_ok-taken.ensures.takes t))
-          (subst (λ (o : Option ℕ). MatchOption o (HasNoFeed text) (IsFirstFeed text)) c.in_default-first_feed.is
-          (feed_found text c.first_feed.result c.first_feed.ensures))
+          (subst (λ (o : Option ℕ). MatchOption o (HasNoFeed text) (IsFirstFeed text)) c.in_default-feed_behind.is
+          c.feed_behind.ensures)
           c.if-place.false
           c.in_ok-taken.ensures.only (fails_quietly _ _ _ _ c.in_ok-taken.ensures.fails),
       c.in_ok-taken.ensures.room ∙ c.loop-taken.invariant.1,

@@ -1,7 +1,7 @@
-use Rattle.std.proofs.Common.{refl, ap, arith, ◌∙◌, sym, ◌≡◌, ℕ, drop}
+use Rattle.std.proofs.Common.{true, ◌+◌, ◌-◌, refl, ap, arith, ◌∙◌, sym, ◌≡◌, ℕ, drop}
 use Rattle.std.proofs.lemmas.Bool.{false≢true}
 use Rattle.cckd_shelf.specs.World.{World}
-use Rattle.cckd_top.proofs.Filling.{took}
+use Rattle.cckd_top.proofs.Filling.{took, front_stays}
 use Rattle.cckd_top.proofs.lines.take_more.Goals as goal
 
 pub returns-then-count-eq0-clause-takes : goal.returns-then-count-eq0-clause-takes
@@ -23,3 +23,14 @@ returns-clause-takes g c = λ told.
     took c.args.room.now c.take.new.into c.args.place _ script _ c.in_ok-count.count _ c.requires.place
     (omega (arith, c.in_ok-count.ensures.fits)) (c.in_ok-count.ensures.next told)
     rest refl refl (λ ended. absurd (false≢true (sym c.requires.going_on ∙ ended)))
+
+pub returns-then-count-eq0-clause-front : goal.returns-then-count-eq0-clause-front
+returns-then-count-eq0-clause-front g c =
+    front_stays c.args.room.now c.take.new.into c.args.place (record c.args.place { ended = true }) c.in_ok-count.count _ c.requires.place
+    (omega (arith, c.in_ok-count.ensures.fits)) refl (omega (arith, c.if-count-eq0.true))
+
+pub returns-clause-front : goal.returns-clause-front
+returns-clause-front g c =
+    front_stays c.args.room.now c.take.new.into c.args.place
+    (record c.args.place { end = c.args.place.end + c.in_ok-count.count; left = c.args.place.left - c.in_ok-count.count }) c.in_ok-count.count _ c.requires.place
+    (omega (arith, c.in_ok-count.ensures.fits)) refl refl
