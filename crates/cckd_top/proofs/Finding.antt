@@ -11,7 +11,7 @@ use Rattle.cckd_top.specs.declared.lines.Place.{Place}
 use Rattle.cckd_top.specs.declared.lines.Next.{Next}
 use Rattle.cckd_top.specs.declared.lines.Next.TheVariants as next
 use Rattle.cckd_top.specs.Lines.{IsFirstFeed, fed, last, IsLine, IsNext, Passes, line_next, IsPlace, IsAtEnd, Grows, TakesMore, BreaksOff, pending, allowance}
-use Rattle.cckd_script.specs.Lines.{HasNoFeed}
+use Rattle.cckd_script.specs.Lines.{HasNoFeed, line_limit}
 use Rattle.cckd_script.proofs.LineLemmas.{no_feed-append}
 use Rattle.cckd_top.specs.World.{OnlyTakes}
 use Rattle.cckd_top.proofs.WorldLemmas.{only_takes_twice}
@@ -94,15 +94,15 @@ module _ (tells : Type 0) (old now : World) (before after : Faults) (first place
           shared = omega (arith, ap length spelled, length-append line (10 ∷ rest), sized, so_far.shared, fits, left);
         } in
         ⊎_elim
-        (λ (over : 131072 < at).
-        subst (IsNext room text rest (allowance first) behind) (sym (ap (λ (b : Bool). cond b next.LineTooLong (next.Line place.start (place.start + at))) (lt-ltb 131072 at over)))
+        (λ (over : line_limit < at).
+        subst (IsNext room text rest (allowance first) behind) (sym (ap (λ (b : Bool). cond b next.LineTooLong (next.Line place.start (place.start + at))) (lt-ltb line_limit at over)))
         (line, found, omega (arith, sized, over)))
-        (λ (under : at ≤ 131072).
-        subst (IsNext room text rest (allowance first) behind) (sym (ap (λ (b : Bool). cond b next.LineTooLong (next.Line place.start (place.start + at))) (le-ltb 131072 at under))) (
+        (λ (under : at ≤ line_limit).
+        subst (IsNext room text rest (allowance first) behind) (sym (ap (λ (b : Bool). cond b next.LineTooLong (next.Line place.start (place.start + at))) (le-ltb line_limit at under))) (
           subst (λ (s : List ℕ). IsLine s text rest (allowance first) (allowance behind) place.ended) (sym (pending_front room place at (omega (arith, fits)))) found,
           omega (arith, under),
         ))
-        (cases_lt 131072 at)
+        (cases_lt line_limit at)
 
     -- the last line, without a feed
     pub finds_last : HasNoFeed (pending room place) → place.ended ≡ true → 0 < place.end - place.start → tells
@@ -127,16 +127,16 @@ module _ (tells : Type 0) (old now : World) (before after : Faults) (first place
           shared = omega (arith, ap length spelled, ap length empty, sized, so_far.shared, so_far.within.order);
         } in
         ⊎_elim
-        (λ (over : 131072 < len).
-        subst (IsNext room text rest (allowance first) behind) (sym (ap (λ (b : Bool). cond b next.LineTooLong (next.Line place.start (place.start + len))) (lt-ltb 131072 len over)))
+        (λ (over : line_limit < len).
+        subst (IsNext room text rest (allowance first) behind) (sym (ap (λ (b : Bool). cond b next.LineTooLong (next.Line place.start (place.start + len))) (lt-ltb line_limit len over)))
         (line, found, omega (arith, sized, over)))
-        (λ (under : len ≤ 131072).
-        subst (IsNext room text rest (allowance first) behind) (sym (ap (λ (b : Bool). cond b next.LineTooLong (next.Line place.start (place.start + len))) (le-ltb 131072 len under))) (
+        (λ (under : len ≤ line_limit).
+        subst (IsNext room text rest (allowance first) behind) (sym (ap (λ (b : Bool). cond b next.LineTooLong (next.Line place.start (place.start + len))) (le-ltb line_limit len under))) (
           subst (λ (s : List ℕ). IsLine s text rest (allowance first) (allowance behind) place.ended)
               (ap (λ (n : ℕ). take n (drop place.start room)) (omega arith)) found,
           omega (arith, under),
         ))
-        (cases_lt 131072 len)
+        (cases_lt line_limit len)
 
     -- nothing more
     pub finds_end : place.ended ≡ true → place.end - place.start ≡ 0 → tells
@@ -166,7 +166,7 @@ module _ (tells : Type 0) (old now : World) (before after : Faults) (first place
 
     -- the rest of a line that is too long
     pub finds_passed : (room' : List ℕ) (then : World) (behind : Place) (found : Next) → HasNoFeed (pending room place)
-        → 131072 < place.end - place.start
+        → line_limit < place.end - place.start
         → Passes now.script (pending room' behind ++ then.script) place.left behind found → tells
         → IsNext room' (pending begun first ++ old.script) (pending room' behind ++ then.script) (allowance first) behind found
     finds_passed room' then behind (next.Line start end) none long passes told = absurd passes

@@ -16,6 +16,7 @@ use Rattle.cckd_script.specs.declared.misread.Item.TheVariants.{Asked, Misread}
 use Rattle.cckd_script.specs.declared.misread.Misreading.TheVariants as misreading
 use Rattle.cckd_script.specs.Parse.{parsed}
 use Rattle.cckd_script.specs.Items.{line_items, items_of, script_items}
+use Rattle.cckd_script.specs.Lines.{line_limit}
 use Rattle.cckd_script.specs.Text.{Entry, item_of, entry_text, script_text}
 use Rattle.cckd_top.specs.declared.lines.Place.{Place}
 use Rattle.cckd_top.specs.declared.lines.Next.{Next}
@@ -99,8 +100,8 @@ serves_none tells told l file limit w f room place is =
     })
 
 -- what is served of what comes next
-items_too_long : (line : List ℕ) → 131072 < length line → line_items line ≡ Misread misreading.LineTooLong ∷ []
-items_too_long line long = cond-true (nat_lt 131072 (length line)) _ (items_of (parsed line)) (lt-ltb 131072 (length line) long)
+items_too_long : (line : List ℕ) → line_limit < length line → line_items line ≡ Misread misreading.LineTooLong ∷ []
+items_too_long line long = cond-true (nat_lt line_limit (length line)) _ (items_of (parsed line)) (lt-ltb line_limit (length line) long)
 
 none_behind : (a b : List ℕ) → a ++ b ≡ [] → b ≡ []
 none_behind [] b e = e

@@ -13,6 +13,7 @@ use Rattle.cckd_script.specs.declared.parse.What.{What}
 use Rattle.cckd_script.specs.Items.{items_of, line_items}
 use Rattle.cckd_script.specs.Parse.{parsed}
 use Rattle.cckd_script.specs.Put.{IsPut}
+use Rattle.cckd_script.specs.Lines.{line_limit}
 use Rattle.cckd_script.specs.Text.{Entry, item_of, entry_text, script_text}
 use Rattle.cckd_top.specs.World.{KeepsFiles, PutsFront}
 use Rattle.cckd_top.specs.Serving.{IsLegal, HasServed, Serves, RoseBy, entry_faults, entry_status}
@@ -101,6 +102,6 @@ none_served tells told l file w f items none = record {
 }
 
 -- the items of a line that isn't too long
-pub line_items_are : (line : List ℕ) (r : Result What LineFault) → length line ≤ 131072 → r ≡ parsed line → line_items line ≡ items_of r
+pub line_items_are : (line : List ℕ) (r : Result What LineFault) → length line ≤ line_limit → r ≡ parsed line → line_items line ≡ items_of r
 line_items_are line r short e =
-    cond-false (nat_lt 131072 (length line)) _ _ (le-ltb 131072 (length line) short) ∙ ap items_of (sym e)
+    cond-false (nat_lt line_limit (length line)) _ _ (le-ltb line_limit (length line) short) ∙ ap items_of (sym e)

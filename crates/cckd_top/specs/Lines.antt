@@ -1,6 +1,6 @@
 -- A script, line by line, as it is taken.
 use Rattle.std.specs.Prelude.{◌≡◌, ◌<◌, ◌≤◌, ℕ, ◌+◌, ◌-◌, ◌==◌, nat_lt, if◌then◌else◌, Bool, true, ⊤, List, [], ◌∷◌, ◌++◌, length, take, drop}
-use Rattle.cckd_script.specs.Lines.{HasNoFeed}
+use Rattle.cckd_script.specs.Lines.{HasNoFeed, line_limit}
 use Rattle.cckd_top.specs.declared.lines.Place.{Place}
 use Rattle.cckd_top.specs.declared.lines.Next.{Next}
 use Rattle.cckd_top.specs.declared.lines.Next.TheVariants as next
@@ -62,9 +62,9 @@ IsEmpty place = place.end ≤ place.start
 -- What comes next in a text, and what is behind it. Of a script that is too long one byte past the limit was taken.
 abbrev pub IsNext : List ℕ → List ℕ → List ℕ → ℕ → Place → Next → Type 0
 IsNext room text rest before place (next.Line start end) =
-    IsLine (take (end - start) (drop start room)) text rest before (allowance place) place.ended × (end - start ≤ 131072)
+    IsLine (take (end - start) (drop start room)) text rest before (allowance place) place.ended × (end - start ≤ line_limit)
 IsNext room text rest before place next.LineTooLong =
-    (line : List ℕ) × IsLine line text rest before (allowance place) place.ended × (131072 < length line)
+    (line : List ℕ) × IsLine line text rest before (allowance place) place.ended × (line_limit < length line)
 IsNext room text rest before place next.ScriptTooLong =
     HasNoFeed (take before text) × (before < length text) × (rest ≡ drop (before + 1) text) × IsEmpty place
 IsNext room text rest before place next.End = (text ≡ []) × (rest ≡ []) × (allowance place ≡ before)
@@ -80,7 +80,7 @@ Passes text rest before place next.End = ⊥
 
 -- a line of so many bytes in a room is handed out, or it is too long
 abbrev pub line_next : ℕ → ℕ → Next
-line_next start len = if nat_lt 131072 len then next.LineTooLong else next.Line start (start + len)
+line_next start len = if nat_lt line_limit len then next.LineTooLong else next.Line start (start + len)
 
 -- a line that was found lies in the room
 abbrev pub LiesIn : List ℕ → Next → Type 0
@@ -91,7 +91,7 @@ LiesIn room next.End = ⊤
 
 -- a line that was found isn't too long
 abbrev pub IsShort : Next → Type 0
-IsShort (next.Line start end) = end - start ≤ 131072
+IsShort (next.Line start end) = end - start ≤ line_limit
 IsShort next.LineTooLong = ⊤
 IsShort next.ScriptTooLong = ⊤
 IsShort next.End = ⊤

@@ -3,7 +3,7 @@ use Rattle.std.specs.Prelude.{◌≡◌, ◌≤◌, ⊤, ℕ, Bool, false, if◌
 use Rattle.cckd_base.specs.declared.geometry.Layout.{Layout}
 use Rattle.cckd_base.specs.declared.fault.HeaderFault.{HeaderFault}
 use Rattle.cckd_base.specs.declared.misfit.Misfit.{Misfit}
-use Rattle.cckd_base.specs.Geometry.{area_of, IsLayout}
+use Rattle.cckd_base.specs.Geometry.{area_of, format_limit, IsLayout}
 use Rattle.cckd_base.specs.Header.{base_identifier, headers_of, header_fault, layout_of}
 use Rattle.cckd_base.specs.Survey.{misfits}
 use Rattle.cckd_tables.specs.Scan.{first_misfit}
@@ -43,7 +43,7 @@ pub record IsMounted (l : Layout) (file : List ℕ) : Type 0 where
   pub layout : IsLayout l
   pub base : l.shadow ≡ false
   pub area : area_of l.groups ≤ length file
-  pub short : length file ≤ 2147483640
+  pub short : length file ≤ format_limit
   pub clean : misfits l file ≡ []
 
 -- the headers of a base have no fault, and say this layout
@@ -52,7 +52,7 @@ pub record HasSoundHeaders (file : List ℕ) (l : Layout) (len : ℕ) : Type 0 w
   pub says : l ≡ file_layout file
   pub measured : len ≡ length file
   pub base : l.shadow ≡ false
-  pub short : length file ≤ 2147483640
+  pub short : length file ≤ format_limit
 
 -- the layout is that of a base whose headers and tables are sound
 pub record IsBaseOf (file : List ℕ) (l : Layout) : Type 0 where

@@ -9,17 +9,8 @@ ghost use Rattle.cckd_base.specs.Entry.{word_at, entry_in_table, entry_at};
 ghost use Rattle.cckd_top.specs.Lookup.{group_entry};
 ghost use Rattle.cckd_top.specs.Opening.{IsMounted};
 
-use cckd_base::{L2Entry, Layout, Track};
+use cckd_base::{GROUP_TRACKS, L2Entry, Layout, SEE_PARENT, Track, WORDS_AT};
 use cckd_shelf::{Failed, Slot, Stage};
-
-/// Entries of a level-two table.
-const ENTRIES: u32 = 256;
-
-/// Where the level-one table starts.
-const WORDS_AT: u64 = 1024;
-
-/// The level-one word of a group whose tracks are looked up in the file below.
-const SEE_PARENT: u32 = 0xffff_ffff;
 
 /// The level-one word of a group.
 fn word_of<T: Stage>(stage: &mut T, base: Slot, l: &Layout, group: u32) -> Result<u32, Failed>
@@ -33,7 +24,7 @@ fn word_of<T: Stage>(stage: &mut T, base: Slot, l: &Layout, group: u32) -> Resul
     ensures called { Called (T.calls stage.old) (T.calls stage.new) }
 {
     let mut bytes = [0; 4];
-    stage.read(base, WORDS_AT + 4 * u64::from(group), &mut bytes)?;
+    stage.read(base, u64::from(WORDS_AT) + 4 * u64::from(group), &mut bytes)?;
     Ok(l.order.u32_of(bytes))
 }
 
@@ -56,7 +47,7 @@ fn entry_in<T: Stage>(
     let mut bytes = [0; 8];
     stage.read(
         base,
-        u64::from(table) + 8 * u64::from(t.0 % ENTRIES),
+        u64::from(table) + 8 * u64::from(t.0 % GROUP_TRACKS),
         &mut bytes,
     )?;
     Ok(L2Entry::decode(l.order, bytes))
@@ -96,7 +87,7 @@ pub fn entry_of<T: Stage>(
     ensures fails { Fails Reads result (T.faults stage.old) (T.faults stage.new) }
     ensures called { T.calls stage.new ≤ T.calls stage.old + 2 }
 {
-    let word = word_of(stage, base, l, t.0 / ENTRIES)?;
+    let word = word_of(stage, base, l, t.0 / GROUP_TRACKS)?;
     match entry_of_all(l, word) {
         Some(entry) => Ok(entry),
         None => entry_in(stage, base, l, word, t),

@@ -60,12 +60,13 @@ fn stored_reply(l: &Layout, t: Track, bytes: &mut [u8]) -> Reply
     }
 }
 
-/// The format of a null entry, of which there are two.
-fn format_of(entry: L2Entry) -> u8
-    ensures known { result < 2 }
-    ensures value { entry.len < 2 → result ≡ entry.len }
+/// The format of a null entry; that of the header where no null track of the device has it.
+fn format_of(l: &Layout, entry: L2Entry) -> u8
+    requires { IsLayout l.now }
+    ensures known { IsNullFormat l.now.geo result }
+    ensures value { IsNullFormat l.now.geo entry.len → result ≡ entry.len }
 {
-    if entry.len == 0 { 0 } else { 1 }
+    entry.null_format(&l.geo).unwrap_or(l.null_fmt)
 }
 
 /// The reply to a read of a track with this entry, whose value goes to the front of `out`.
@@ -91,7 +92,7 @@ fn reply_by<T: Stage>(
     ensures called { T.calls stage.new ≤ T.calls stage.old + 1 }
 {
     if entry.is_null() {
-        return Ok(null_reply(l, t, format_of(entry), out));
+        return Ok(null_reply(l, t, format_of(l, entry), out));
     }
     let bytes = &mut out[..usize::from(entry.len)];
     stage.read(base, u64::from(entry.pos), bytes)?;
