@@ -258,6 +258,46 @@ fn null_and_stored_tracks_are_read(rt: HostRuntime) -> Result<(), Fail> {
     reads(&rt, alloc, &file, "read 0 0\n", &[STORED, CLOSED], 0)
 }
 
+/// What makes of a raw 2311 one with tracks of 65,024 bytes, whose track 0 is a record of 64,987 zeros.
+const LONGEST: [Patch<'static>; 6] = [
+    (12, b"\0\xfe\0\0"),
+    (1024, b"\x20\x04"),
+    (1056, b"\x20\x0c\0\0\0\xfe\0\xfe"),
+    (3116, b"\x08"),
+    (3129, b"\x01\0\xfd\xdb"),
+    (68_120, b"\xff\xff\xff\xff\xff\xff\xff\xff"),
+];
+
+#[test]
+fn the_longest_track_is_read_by_three_calls(rt: HostRuntime) -> Result<(), Fail> {
+    let alloc = rt.alloc();
+    let file = small(alloc, 68_128, &LONGEST)?;
+    let start = b"track 0 0 65024 00000000000000000000000008000000000000000000000000".as_slice();
+    let count = b"0100fddb".as_slice();
+    let mut line = Vec::from_slice(alloc, start)?;
+    line.extend_from_slice(count)?;
+    let digits = vec![in alloc; b'0'; 2 * 64_987]?;
+    line.extend_from_slice(&digits)?;
+    line.extend_from_slice(b"ffffffffffffffff\n")?;
+    line.extend_from_slice(CLOSED.as_bytes())?;
+    let files: [(&str, &[u8]); 1] = [("v", &file)];
+    let words = ["cckdrun", "v"];
+    let (printed, code) = run(&rt, alloc, &words, &files, b"read 0 0\n", &[])?;
+    assert_eq!(rt; printed.as_slice(), line.as_slice());
+    assert_eq!(rt; code, 0);
+    // The word is call 24, the entry 25 and the bytes 26; the line is put by the next one.
+    runs(
+        &rt,
+        alloc,
+        &files,
+        b"read 0 0\n",
+        &[26],
+        &[READ_FAULT, CLOSED],
+        7,
+    )?;
+    runs(&rt, alloc, &files, b"read 0 0\n", &[27], &[], 7)
+}
+
 #[test]
 fn a_refused_line_does_not_end_the_run(rt: HostRuntime) -> Result<(), Fail> {
     let alloc = rt.alloc();
