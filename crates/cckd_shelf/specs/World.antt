@@ -12,6 +12,7 @@ pub data Event : Type 0 where
   Half : Op → Event
   Bound : ℕ → List ℕ → List ℕ → Event
 
+-- all that a stage holds
 pub record World : Type 0 where
   -- what each name holds, where a file has it
   pub files : List ℕ → Option (List ℕ)
@@ -20,6 +21,7 @@ pub record World : Type 0 where
   -- what is left of the script
   pub script : List ℕ
 
+-- whether a slot's name is this one
 abbrev pub is_name : Option (List ℕ) → List ℕ → Bool
 is_name None name = false
 is_name (Some other) name = bytes_eq other name
@@ -73,6 +75,7 @@ output_of (Bound s name bytes ∷ earlier) = output_of earlier
 abbrev pub file_of : World → ℕ → List ℕ
 file_of w slot = file_now w.events slot
 
+-- what the files hold is told
 abbrev pub IsSure : World → Type 0
 IsSure w = IsTrue (is_sure w.events)
 
@@ -136,6 +139,7 @@ after_half_cut w slot len = record w {
   events = Half (Cut slot len) ∷ w.events;
 }
 
+-- after a sync
 abbrev pub after_sync : World → ℕ → World
 after_sync w slot = record w { events = Made (Sync slot) ∷ w.events }
 

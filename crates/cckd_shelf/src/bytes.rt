@@ -23,6 +23,7 @@ impl Model for Bytes {
 }
 
 impl Bytes {
+    /// A copy of these bytes, or want of memory for it.
     pub fn of(alloc: Global, bytes: &[u8]) -> Result<Bytes, Memory>
         ensures { IfOk result (λ b. b ≡ bytes.now) }
     {
@@ -30,7 +31,7 @@ impl Bytes {
         Ok(Bytes { items })
     }
 
-    /// Takes no memory.
+    /// No bytes. Takes no memory.
     pub fn empty(alloc: Global) -> Bytes
         ensures { result ≡ [] }
     {
@@ -39,14 +40,14 @@ impl Bytes {
         }
     }
 
-    /// Takes no memory.
+    /// The bytes of a `Vec`. Takes no memory.
     pub fn from_vec(items: Vec<u8>) -> Bytes
         ensures { result ≡ items.items }
     {
         Bytes { items }
     }
 
-    /// Takes no memory.
+    /// The bytes as a `Vec`. Takes no memory.
     pub fn into_vec(self) -> Vec<u8>
         ensures { result.items ≡ self }
     {

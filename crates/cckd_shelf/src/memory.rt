@@ -26,6 +26,8 @@ impl MemoryStage {
     ghost use Rattle.cckd_shelf.specs.Memory.{world_of, counts_of};
     ghost use Rattle.cckd_shelf.specs.Counts.{IsFresh};
 
+    /// A stage with these files and this script. The calls of the numbers in `failing` are to fail, counted from
+    /// 1 over all calls of both traits.
     pub fn new(
         alloc: Global,
         files: &[FileIn],

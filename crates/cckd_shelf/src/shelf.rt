@@ -7,6 +7,8 @@ ghost use Rattle.cckd_shelf.specs.declared.fault.Faults.{Faults as Counts};
 
 use crate::{Failed, Slot};
 
+/// Files by slot. Positions and lengths are bytes. A call that fails raised the count of faults of its own
+/// kind: `bind`, `len` and `read` that of reads, `write` and `cut` that of writes, `sync` that of syncs.
 pub trait Shelf {
     /// Whether it tells what it holds: memory does, a real file doesn't.
     ghost tells: { Type 0 };

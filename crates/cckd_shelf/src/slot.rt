@@ -20,6 +20,7 @@ impl Model for Slot {
 }
 
 impl Slot {
+    /// The slot of a number. None where it is above 8.
     pub fn new(n: u8) -> Option<Slot>
         ensures { SomeIff result (n ≤ 8) n }
     {
@@ -29,6 +30,7 @@ impl Slot {
         Some(Slot { number: n })
     }
 
+    /// The slot's number.
     pub fn get(self) -> u8
         ensures value { result ≡ self }
         ensures within { result ≤ 8 }

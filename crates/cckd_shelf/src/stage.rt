@@ -5,6 +5,8 @@ ghost use Rattle.cckd_shelf.specs.World.{World, after_take, after_put};
 
 use crate::{Failed, Shelf};
 
+/// The outside of a run: its files, a script that is taken and an output that is put. `take` and `put` have
+/// counts of faults of their own.
 pub trait Stage: Shelf {
     /// Fills the front of `into` with the next bytes of the script, and answers how many: 0 at its end.
     fn take(&mut self, into: &mut [u8]) -> Result<usize, Failed>

@@ -8,6 +8,7 @@ use crate::view::{Terms, View};
 use atomic_table::{Join, Play, Split, TableRule};
 use std::marker::PhantomData;
 
+/// The rule that the table keeps.
 pub struct Turns;
 
 impl<V: Stands> TableRule<Option<V>, View<V::Entry>, Terms> for Turns {
@@ -16,35 +17,35 @@ impl<V: Stands> TableRule<Option<V>, View<V::Entry>, Terms> for Turns {
     ghost first = { opening_view };
 }
 
-// Draws a ticket.
+/// Draws a ticket.
 pub struct Draw;
 
 impl<V: Stands> Play<Option<V>, View<V::Entry>> for Draw {
     ghost then = { λ _. drawn };
 }
 
-// Draws a ticket only where it is served at once.
+/// Draws a ticket only where it is served at once.
 pub struct Try;
 
 impl<V: Stands> Play<Option<V>, View<V::Entry>> for Try {
     ghost then = { λ step. tried step.first };
 }
 
-// Looks which ticket is served.
+/// Looks which ticket is served.
 pub struct Look;
 
 impl<V: Stands> Play<Option<V>, View<V::Entry>> for Look {
     ghost then = { λ _. looked V.by };
 }
 
-// Takes the value out.
+/// Takes the value out.
 pub struct Take;
 
 impl<V: Stands> Play<Option<V>, View<V::Entry>> for Take {
     ghost then = { λ _. took V.stands };
 }
 
-// Puts the value back.
+/// Puts the value back.
 pub struct PutBack<N> {
     naming: PhantomData<N>,
 }
@@ -53,14 +54,14 @@ impl<V: Stands, N: Adds<V::Entry>> Play<Option<V>, View<V::Entry>> for PutBack<N
     ghost then = { λ _. put_back N.entry };
 }
 
-// Serves the next ticket.
+/// Serves the next ticket.
 pub struct PassOn;
 
 impl<V: Stands> Play<Option<V>, View<V::Entry>> for PassOn {
     ghost then = { λ _. passed_on V.by };
 }
 
-// Gives a number to a new seat, and takes a seat's numbers in.
+/// Gives a number to a new seat, and takes a seat's numbers in.
 pub struct Deal;
 
 impl<E> Split<View<E>> for Deal {
