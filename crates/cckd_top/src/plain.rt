@@ -16,8 +16,8 @@ const TRACK_ROOM: usize = 65_536;
 const SCRIPT_ROOM: usize = LINE_LIMIT + 65_536;
 
 /// Runs `cckdrun FILE` with these words, the command's name first. It mounts the file, serves the script
-/// line by line, whatever its length, and prints a line for each reply. It waits for nobody. Memory is
-/// taken by the survey at mounting alone.
+/// line by line, whatever its length, and prints a line for each reply. It waits for nobody. Beside what the
+/// stage takes, memory is taken by the survey at mounting alone.
 pub fn run_plain<T: Stage>(stage: T, alloc: Global, words: &[String]) -> (T, Status)
     ensures { IsExplained T.tells (T.world stage) (T.world result.0) (T.faults stage) (T.faults result.0)
         (map string_bytes words.now) result.1.code }
