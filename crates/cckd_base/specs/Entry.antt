@@ -18,6 +18,7 @@ entry_of order bytes = record {
   size = number_of order w16 (drop 6 bytes);
 }
 
+-- the eight bytes that spell an entry
 abbrev pub entry_bytes : Order → L2Entry → List ℕ
 entry_bytes order e = bytes_of order w32 e.pos ++ bytes_of order w16 e.len ++ bytes_of order w16 e.size
 

@@ -14,6 +14,7 @@ abbrev pub op_event : Bool → Op → Event
 op_event true op = Half op
 op_event false op = Made op
 
+-- whether an operation was made, or failed half way
 abbrev pub note_of : Bool → Note
 note_of true = note.Half
 note_of false = note.Made
@@ -73,6 +74,7 @@ pub record HasNone (files : List FileIn) (name : List ℕ) : Type 0 where
 abbrev pub no_place : Place
 no_place = record { name = None; loose = [] }
 
+-- the place of a slot
 abbrev pub place_at : List Place → ℕ → Place
 place_at places slot = slice_index_or places slot no_place
 
@@ -85,6 +87,7 @@ abbrev pub content_by : (List ℕ → Option (List ℕ)) → Option (List ℕ) �
 content_by files None loose = loose
 content_by files (Some name) loose = unwrap_or (files name) []
 
+-- what the slot of a place holds
 abbrev pub content : (List ℕ → Option (List ℕ)) → Place → List ℕ
 content files place = content_by files place.name place.loose
 
@@ -93,6 +96,7 @@ abbrev pub loose_after : Option (List ℕ) → List ℕ → List ℕ → List �
 loose_after None old bytes = bytes
 loose_after (Some name) old bytes = old
 
+-- the place of a slot that now holds these bytes
 abbrev pub with_content : Place → List ℕ → Place
 with_content place bytes = record place { loose = loose_after place.name place.loose bytes }
 

@@ -9,15 +9,19 @@ use Rattle.cckd_shelf.specs.Held.{world_in}
 use Rattle.cckd_shelf.specs.Inside.{IsStored, place_at, content_by}
 use Rattle.cckd_shelf.specs.declared.places.Place.{Place}
 
+-- what a stage in memory holds
 abbrev pub world_of : MemoryStage → World
 world_of stage = world_in stage.held (drop stage.taken stage.script)
 
+-- its counts
 abbrev pub counts_of : MemoryStage → Counts
 counts_of stage = stage.counts
 
+-- its counts of faults
 abbrev pub faults_of : MemoryStage → Faults
 faults_of stage = stage.counts.faults
 
+-- its count of calls
 abbrev pub calls_of : MemoryStage → ℕ
 calls_of stage = stage.counts.calls
 

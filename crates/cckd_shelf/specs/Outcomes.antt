@@ -91,6 +91,7 @@ event_of (Cut slot len) = Made (Cut slot len)
 event_of (Sync slot) = Made (Sync slot)
 event_of (Out bytes) = Made (Out bytes)
 
+-- the events of these operations, the oldest first, behind earlier ones
 abbrev pub events_onto : List Op → List Event → List Event
 events_onto [] earlier = earlier
 events_onto (op ∷ rest) earlier = events_onto rest (event_of op ∷ earlier)

@@ -38,6 +38,7 @@ refusal_faults refusal.NoSuchTrack = 0
 refusal_faults (refusal.Track fault) = 0
 refusal_faults refusal.ReadFault = 1
 
+-- how many faults of reading a reply tells
 abbrev pub reply_faults : Reply → ℕ
 reply_faults (reply.Track len) = 0
 reply_faults reply.Closed = 0

@@ -40,6 +40,7 @@ abbrev pub entry_faults : Entry → ℕ
 entry_faults (answered call given bytes) = reply_faults given
 entry_faults (misread why) = 0
 
+-- the same of many entries
 abbrev pub read_faults : List Entry → ℕ
 read_faults [] = 0
 read_faults (e ∷ es) = entry_faults e + read_faults es
@@ -54,11 +55,13 @@ refusal_status refusal.NoSuchTrack = 1
 refusal_status (refusal.Track fault) = 1
 refusal_status refusal.ReadFault = 7
 
+-- the status that a reply asks for
 abbrev pub reply_status : Reply → ℕ
 reply_status (reply.Track len) = 0
 reply_status reply.Closed = 0
 reply_status (reply.Refused why) = refusal_status why
 
+-- the status that an entry asks for
 abbrev pub entry_status : Entry → ℕ
 entry_status (answered call given bytes) = reply_status given
 entry_status (misread why) = 1
@@ -131,6 +134,7 @@ StopsBy tells limit w w' before after entries stop.Unscripted =
 StopsBy tells limit w w' before after entries stop.Cut =
     (tells → OfAFront limit w.script entries) × AreSaid tells w w' before after entries (Err (record {}))
 
+-- a script was served over a file until this
 pub record ServesScript (tells told : Type 0) (l : Layout) (file : List ℕ) (limit : ℕ) (w w' : World) (before after : Faults) (end : Stop) : Type 0 where
   pub entries : List Entry
   pub served : HasServed told l file before after entries

@@ -15,6 +15,7 @@ use Rattle.cckd_base.specs.declared.fault.HeaderFault.TheVariants.{NotCckd, BadG
 use Rattle.cckd_top.specs.declared.halt.Halt.{Halt}
 use Rattle.cckd_top.specs.declared.halt.Halt.TheVariants as halt
 
+-- the name of a field of the geometry
 abbrev pub geometry_field : GeoField → List ℕ
 geometry_field geo.Heads = codes "heads"
 geometry_field geo.Cylinders = codes "cylinders"
@@ -22,6 +23,7 @@ geometry_field geo.Tracks = codes "tracks"
 geometry_field geo.TrackSize = codes "track-size"
 geometry_field geo.Sequence = codes "sequence"
 
+-- the name of a count
 abbrev pub count_field : CountField → List ℕ
 count_field counted.LevelOne = codes "level-one"
 count_field counted.LevelTwo = codes "level-two"
@@ -45,6 +47,7 @@ owner_text (Track t) = codes "track " ++ decimal t
 abbrev pub space_text : Extent → List ℕ
 space_text e = owner_text e.owner ++ codes " at " ++ decimal e.pos ++ codes " for " ++ decimal e.size
 
+-- the fields of an entry
 abbrev pub entry_fields : L2Entry → List ℕ
 entry_fields e = codes " at " ++ decimal e.pos ++ codes " length " ++ decimal e.len ++ codes " size " ++ decimal e.size
 

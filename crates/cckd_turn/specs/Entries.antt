@@ -15,6 +15,7 @@ abbrev pub total : {A : Type 0} → (A → ℕ) → List A → ℕ
 total f [] = 0
 total f (x ∷ xs) = f x + total f xs
 
+-- 1 for what is counted, and 0 for anything else
 abbrev pub one_if : Bool → ℕ
 one_if true = 1
 one_if false = 0

@@ -6,6 +6,7 @@ use Rattle.cckd_turn.specs.Entries.{Owns}
 use Rattle.cckd_turn.specs.Views.{waiting, refused, seen_until, looking, holding, returning, served, with_made}
 use Rattle.cckd_turn.specs.declared.view.View.{View}
 
+-- what a seat of the table has seen
 abbrev pub Sat : Type 0 → Type 0 → Type 0
 Sat V E = Me (Option V) (View E)
 

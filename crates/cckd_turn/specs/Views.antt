@@ -30,11 +30,13 @@ abbrev pub new_names : {E : Type 0} → ℕ → ℕ → List (ℕ × List E)
 new_names first zero = []
 new_names first (suc count) = (first, []) ∷ new_names (first + 1) count
 
+-- the second name of a list, if there is one
 abbrev pub second_name : {E : Type 0} → List (ℕ × List E) → List (ℕ × List E)
 second_name [] = []
 second_name (x ∷ []) = []
 second_name (x ∷ y ∷ ys) = y ∷ []
 
+-- the list without it
 abbrev pub without_second : {E : Type 0} → List (ℕ × List E) → List (ℕ × List E)
 without_second [] = []
 without_second (x ∷ []) = x ∷ []
