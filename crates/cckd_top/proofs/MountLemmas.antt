@@ -15,11 +15,11 @@ use Rattle.cckd_top.specs.declared.halt.Halt.TheVariants as halt
 use Rattle.cckd_top.specs.Opening.{bad_header, has_misfit, not_yet, ready, opening_by, opening_of, base_fault, file_layout, IsBaseOf, HasBaseCause}
 use Rattle.cckd_top.specs.Run.{HasHaltCause, HaltMakes, IsBaseSync, opening_in}
 use Rattle.cckd_top.specs.World.{OnlyMakes, MakesSome, AreNamed, has_shadow, holds_shadow}
-use Rattle.cckd_top.proofs.WorldLemmas.{only_makes_twice}
+use Rattle.cckd_top.proofs.WorldLemmas.{only_makes_twice, intact_at_sync}
 use Rattle.cckd_top.proofs.ShadowLemmas.{shadows_are_held}
 
 sync_makes : (w : World) (slot : ℕ) → OnlyMakes (Sync slot ∷ []) w (after_sync w slot)
-sync_makes w slot = record { files = refl; made = refl; silent = append-nil (output_of w.events); sure = refl; script = refl }
+sync_makes w slot = record { files = refl; made = refl; silent = append-nil (output_of w.events); sure = refl; script = refl; intact = intact_at_sync w slot }
 
 -- The files have the names of a disk, and nothing else was done but to sync the base: slot 0 holds what the name held, and the slots above its shadows.
 pub record IsNamedDisk (tells : Type 0) (old now : World) (name : List ℕ) : Type 0 where

@@ -8,7 +8,7 @@ use Rattle.cckd_shelf.specs.World.{World, output_of, file_of, after_put}
 use Rattle.cckd_shelf.specs.declared.op.Op.TheVariants.{Out}
 use Rattle.cckd_top.specs.World.{KeepsFiles}
 use Rattle.cckd_top.proofs.FaultLemmas.{went_well, fails_then}
-use Rattle.cckd_top.proofs.WorldLemmas.{keeps_files_twice}
+use Rattle.cckd_top.proofs.WorldLemmas.{keeps_files_twice, intact_at_put}
 
 -- the first n bytes of a text were put
 pub record IsPutSoFar (tells : Type 0) (old now : World) (before after : Faults) (text : List ℕ) (n : ℕ) : Type 0 where
@@ -20,7 +20,7 @@ pub record IsPutSoFar (tells : Type 0) (old now : World) (before after : Faults)
   pub fails : Fails Puts went_well before after
 
 keeps_at_put : (w : World) (bytes : List ℕ) → KeepsFiles w (after_put w bytes)
-keeps_at_put w bytes = record { files = refl; puts = Out bytes ∷ []; only = (tt, tt); made = refl; sure = refl }
+keeps_at_put w bytes = record { files = refl; puts = Out bytes ∷ []; only = (tt, tt); made = refl; sure = refl; intact = intact_at_put w bytes }
 
 -- one more piece of it
 pub put_more : (tells : Type 0) (old now next : World) (before after later : Faults) (text : List ℕ) (n m : ℕ)

@@ -1,9 +1,16 @@
 -- Steps of a run that only reads, in a row.
-use Rattle.std.proofs.Common.{◌≡◌, refl, sym, ◌∙◌, ap, List, [], ◌∷◌, ◌++◌, append_assoc, append-nil}
+use Rattle.std.proofs.Common.{◌≡◌, ◌==◌, ℕ, Bool, true, false, cond, refl, sym, ◌∙◌, ap, subst, List, [], ◌∷◌, ◌++◌, Option, Some, None, Result, Ok, Err, OnOk, OnErr, unwrap_or, append_assoc, append-nil}
+use Rattle.std.specs.Prelude.{MatchBool}
 use Rattle.std.specs.List.{AllByRecursion}
 use Rattle.cckd_shelf.specs.declared.op.Op.{Op}
-use Rattle.cckd_shelf.specs.World.{World, Event, file_now, file_of, is_sure, ops_of}
-use Rattle.cckd_top.specs.World.{KeepsFiles, OnlyMakes, MakesSome, MakesThenPuts, OnlyTakes}
+use Rattle.cckd_shelf.specs.declared.op.Op.TheVariants.{Sync, Out}
+use Rattle.cckd_shelf.specs.declared.fault.Failed.{Failed}
+use Rattle.cckd_shelf.specs.World.{World, Event, Made, Bound, file_now, file_of, is_sure, is_name, name_of, held_by, ops_of, after_bind, after_put, after_sync}
+use Rattle.cckd_shelf.specs.Outcomes.{AtEach, IsOutcome}
+use Rattle.cckd_shelf.proofs.MomentLemmas.{at_once, at_end, joins, next_at}
+use Rattle.cckd_shelf.proofs.OutcomeLemmas.{put_step, sync_step}
+use Rattle.cckd_shelf.proofs.WorldLemmas.{bind_keeps}
+use Rattle.cckd_top.specs.World.{AreIntact, StayIntact, KeepsFiles, OnlyMakes, MakesSome, MakesThenPuts, OnlyTakes}
 
 pub all_twice : {X : Type 0} (P : X → Type 0) (xs ys : List X) → AllByRecursion P xs → AllByRecursion P ys → AllByRecursion P (xs ++ ys)
 all_twice P [] ys f g = g
@@ -13,6 +20,65 @@ all_twice P (x ∷ xs) ys f g = (f.0, all_twice P xs ys f.1 g)
 ops_twice : (old between new first second : List Op) → between ≡ old ++ first → new ≡ between ++ second → new ≡ old ++ (first ++ second)
 ops_twice old between new first second f g = g ∙ ap (λ (ops : List Op). ops ++ second) f ∙ append_assoc old first second
 
+-- files that stay intact twice
+pub intact_twice : (a b c : World) → b.files ≡ a.files → StayIntact a b → StayIntact b c → StayIntact a c
+intact_twice a b c same f g = λ w here before.
+    let first = f w here before in
+    joins (AreIntact w) a.events b.events c.events first (g w (here ∙ sym same) (at_end (AreIntact w) a.events b.events first))
+
+intact_still : (a b : World) → b.events ≡ a.events → StayIntact a b
+intact_still a b same = λ w here before.
+    subst (λ (events : List Event). AtEach a.events events (AreIntact w)) (sym same) (at_once (AreIntact w) a.events before)
+
+pub intact_at_put : (w : World) (bytes : List ℕ) → StayIntact w (after_put w bytes)
+intact_at_put w bytes = λ v here before.
+    next_at (AreIntact v) w (after_put w bytes) (Made (Out bytes)) refl before
+    (λ slot name named. put_step (λ file. file ≡ held_by v name) slot bytes w.events (before slot name named))
+
+pub intact_at_sync : (w : World) (slot : ℕ) → StayIntact w (after_sync w slot)
+intact_at_sync w slot = λ v here before.
+    next_at (AreIntact v) w (after_sync w slot) (Made (Sync slot)) refl before
+    (λ other name named. sync_step (λ file. file ≡ held_by v name) other slot w.events (before other name named))
+
+-- a slot that gets the file of a name holds it, and another one that loses its name has none
+bound_intact : (here lost : Bool) (own : Option (List ℕ)) (name other bytes file : List ℕ) (v : World) (rest : Type 0)
+    → bytes ≡ held_by v name → (own ≡ Some other → rest → file ≡ held_by v other)
+    → cond here (Some name) (cond lost None own) ≡ Some other
+    → MatchBool here (file ≡ bytes) (MatchBool lost (file ≡ []) rest) → file ≡ held_by v other
+bound_intact true lost own name other bytes file v rest is before named outcome = outcome ∙ is ∙ ap (held_by v) (cc named)
+bound_intact false true own name other bytes file v rest is before named outcome = absurd (cc named)
+bound_intact false false own name other bytes file v rest is before named outcome = before named outcome
+
+pub intact_at_bind : (w : World) (slot : ℕ) (name : List ℕ) → StayIntact w (after_bind w slot name)
+intact_at_bind w slot name =
+    elim (is_name (name_of w.events slot) name) as (λ b. StayIntact w (cond b w (record w { events = Bound slot name (held_by w name) ∷ w.events }))) [
+      | true ↦ intact_still w w refl
+      | false ↦ λ v here before.
+          next_at (AreIntact v) w (record w { events = Bound slot name (held_by w name) ∷ w.events }) (Bound slot name (held_by w name)) refl before
+          (λ other own named file outcome.
+          bound_intact (slot == other) (is_name (name_of w.events other) name) (name_of w.events other) name own (held_by w name) file v
+          (IsOutcome w.events other file) (ap (λ (files : List ℕ → Option (List ℕ)). unwrap_or (files name) []) (sym here))
+          (λ has left. before other own has file left) named outcome)
+    ]
+
+pub only_makes_nothing : (w : World) → OnlyMakes [] w w
+only_makes_nothing w = record { files = refl; made = sym (append-nil (ops_of w.events)); silent = refl; sure = refl; script = refl; intact = intact_still w w refl }
+
+-- a slot got the file of a name, or nothing happened
+pub bind_makes : (w new : World) (slot : ℕ) (name : List ℕ) (result : Result (Unit {0}) Failed) → OnOk result (new ≡ after_bind w slot name)
+    → OnErr result (new ≡ w) → OnlyMakes [] w new
+bind_makes w new slot name (Ok x) bound kept =
+    let keeps = bind_keeps w slot name in
+    subst (OnlyMakes [] w) (sym bound) (record {
+      files = keeps.files;
+      made = keeps.ops ∙ sym (append-nil (ops_of w.events));
+      silent = keeps.output;
+      sure = keeps.sure;
+      script = keeps.script;
+      intact = intact_at_bind w slot name;
+    })
+bind_makes w new slot name (Err e) bound kept = subst (OnlyMakes [] w) (sym kept) (only_makes_nothing w)
+
 pub keeps_files_twice : (a b c : World) → KeepsFiles a b → KeepsFiles b c → KeepsFiles a c
 keeps_files_twice a b c f g = record {
   files = g.files ∙ f.files;
@@ -20,6 +86,7 @@ keeps_files_twice a b c f g = record {
   only = all_twice _ f.puts g.puts f.only g.only;
   made = ops_twice (ops_of a.events) (ops_of b.events) (ops_of c.events) f.puts g.puts f.made g.made;
   sure = g.sure ∙ f.sure;
+  intact = intact_twice a b c f.files f.intact g.intact;
 }
 
 pub keeps_files_still : (a b : World) → b.files ≡ a.files → b.events ≡ a.events → KeepsFiles a b
@@ -29,6 +96,7 @@ keeps_files_still a b files events = record {
   only = tt;
   made = ap ops_of events ∙ sym (append-nil (ops_of a.events));
   sure = ap is_sure events;
+  intact = intact_still a b events;
 }
 
 pub keeps_files_same : (w : World) → KeepsFiles w w
@@ -41,10 +109,8 @@ only_makes_twice first second a b c f g = record {
   silent = g.silent ∙ f.silent;
   sure = g.sure ∙ f.sure;
   script = g.script ∙ f.script;
+  intact = intact_twice a b c f.files f.intact g.intact;
 }
-
-pub only_makes_nothing : (w : World) → OnlyMakes [] w w
-only_makes_nothing w = record { files = refl; made = sym (append-nil (ops_of w.events)); silent = refl; sure = refl; script = refl }
 
 -- what is made, and then put
 pub makes_then_puts : (may : List Op → Type 0) (a b c : World) → MakesSome may a b → KeepsFiles b c → MakesThenPuts may a c
@@ -56,6 +122,7 @@ makes_then_puts may a b c f g = record {
   only = g.only;
   made = ops_twice (ops_of a.events) (ops_of b.events) (ops_of c.events) f.ops g.puts f.makes.made g.made;
   sure = g.sure ∙ f.makes.sure;
+  intact = intact_twice a b c f.makes.files f.makes.intact g.intact;
 }
 
 -- a part of the script that is taken leaves the files as they are

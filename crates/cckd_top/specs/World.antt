@@ -3,7 +3,8 @@ use Rattle.std.specs.Prelude.{◌≡◌, ◌<◌, ⊤, ℕ, zero, suc, Bool, fal
 use Rattle.std.specs.List.{AllByRecursion}
 use Rattle.cckd_shelf.specs.declared.op.Op.{Op}
 use Rattle.cckd_shelf.specs.declared.op.Op.TheVariants.{Write, Torn, Cut, Sync, Out}
-use Rattle.cckd_shelf.specs.World.{World, ops_of, is_sure, output_of, name_of, file_of, held_by}
+use Rattle.cckd_shelf.specs.World.{World, Event, ops_of, is_sure, output_of, name_of, file_of, held_by}
+use Rattle.cckd_shelf.specs.Outcomes.{EachOutcome, AtEach}
 use Rattle.cckd_base.specs.Header.{is_present}
 use Rattle.cckd_top.specs.Names.{slot_name}
 
@@ -15,6 +16,14 @@ IsOutput (Cut slot len) = ⊥
 IsOutput (Sync slot) = ⊥
 IsOutput (Out bytes) = ⊤
 
+-- whatever a stop leaves, each slot that has a name holds what the name held in this world
+abbrev pub AreIntact : World → List Event → Type 0
+AreIntact w events = (slot : ℕ) (name : List ℕ) → name_of events slot ≡ Some name → EachOutcome slot (λ file. file ≡ held_by w name) events
+
+-- the same at each moment from the old world to the new one, where it is so at the old one
+abbrev pub StayIntact : World → World → Type 0
+StayIntact old new = (w : World) → w.files ≡ old.files → AreIntact w old.events → AtEach old.events new.events (AreIntact w)
+
 -- no file is made or changed, and the disk is asked for nothing but to read
 pub record KeepsFiles (old new : World) : Type 0 where
   pub files : new.files ≡ old.files
@@ -22,6 +31,7 @@ pub record KeepsFiles (old new : World) : Type 0 where
   pub only : AllByRecursion IsOutput puts
   pub made : ops_of new.events ≡ ops_of old.events ++ puts
   pub sure : is_sure new.events ≡ is_sure old.events
+  pub intact : StayIntact old new
 
 -- a part of the script is taken, and nothing else happens
 pub record OnlyTakes (old new : World) : Type 0 where
@@ -35,6 +45,7 @@ pub record OnlyMakes (ops : List Op) (old new : World) : Type 0 where
   pub silent : output_of new.events ≡ output_of old.events
   pub sure : is_sure new.events ≡ is_sure old.events
   pub script : new.script ≡ old.script
+  pub intact : StayIntact old new
 
 -- the same, where it is only known of the operations what may be made
 pub record MakesSome (may : List Op → Type 0) (old new : World) : Type 0 where
@@ -51,6 +62,7 @@ pub record MakesThenPuts (may : List Op → Type 0) (old new : World) : Type 0 w
   pub only : AllByRecursion IsOutput puts
   pub made : ops_of new.events ≡ ops_of old.events ++ (ops ++ puts)
   pub sure : is_sure new.events ≡ is_sure old.events
+  pub intact : StayIntact old new
 
 -- the slots below this one have the names of a disk's files
 abbrev pub AreNamed : World → List ℕ → ℕ → Type 0

@@ -1,3 +1,5 @@
+use Rattle.std.proofs.Common.{[]}
+use Rattle.cckd_top.proofs.WorldLemmas.{only_makes_twice}
 use Rattle.cckd_top.proofs.Binding.{bound_none, bound_more, slot_is}
 use Rattle.cckd_top.proofs.FaultLemmas.{fails_quietly}
 use Rattle.cckd_top.proofs.names.bind_all.Goals as goal
@@ -10,3 +12,8 @@ loop-number-preserved g c =
     bound_more _ _ (g.T.Shelf.world c.loop-number.stage) _ _ (g.T.Shelf.faults c.loop-number.stage) _ _ c.loop-number.number c.unwrap-slot.result
     c.loop-number.invariant (slot_is c.new.result c.unwrap-slot.result _ c.new.ensures c.unwrap-slot.ensures)
     c.in_ok-bind.ensures.bound c.in_ok-bind.ensures.idle (fails_quietly _ _ _ _ c.in_ok-bind.ensures.fails)
+
+pub returns-in_err-bind-clause-idle : goal.returns-in_err-bind-clause-idle
+returns-in_err-bind-clause-idle g c = λ told.
+    only_makes_twice [] [] (g.T.Shelf.world c.args.stage.now) (g.T.Shelf.world c.loop-number.stage) (g.T.Shelf.world c.bind.new.stage)
+    (c.loop-number.invariant.idle told) (c.bind.ensures.idle told)
