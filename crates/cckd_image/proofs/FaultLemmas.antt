@@ -56,6 +56,7 @@ decoded_is headers identifiers len h answer e f =
     ∙ ap (λ (a : Option HeaderFault). decoded a (header_of headers))
     (f ∙ ap (λ (x : ImageHeader). fault_of x identifiers len) e ∙ fault_of_bytes headers identifiers len)
 
+-- the headers with these two halves
 abbrev the_headers : DevHeader → CckdHeader → ImageHeader
 the_headers d c = record { dev = d; cckd = c }
 

@@ -7,7 +7,7 @@ use Rattle.cckd_base.specs.declared.order.Order.TheVariants.{Little, Big}
 use Rattle.cckd_base.specs.declared.geometry.Geometry.{Geometry}
 use Rattle.cckd_base.specs.declared.geometry.Layout.{Layout}
 use Rattle.cckd_base.specs.declared.fault.HeaderFault.{HeaderFault}
-use Rattle.cckd_base.specs.Geometry.{group_count, area_of, IsGeometry, IsNullFormat}
+use Rattle.cckd_base.specs.Geometry.{group_count, area_of, format_limit, IsGeometry, IsNullFormat}
 use Rattle.cckd_base.specs.Numbers.{bytes_of, bytes_at, number_at}
 use Rattle.cckd_base.specs.Header.{base_identifier, shadow_identifier, identifier, header_heads, header_track_size, header_cylinders, header_device_type, header_sequence, header_options, header_null_format, level_one_count, level_two_count, image_order}
 use Rattle.cckd_image.specs.declared.roles.Roles.{Roles}
@@ -79,7 +79,7 @@ layout_by h = record {
 
 -- the lengths of an image with so many groups
 abbrev pub IsLength : ℕ → ℕ → Type 0
-IsLength groups len = (area_of groups ≤ len) × (len ≤ 2147483640)
+IsLength groups len = (area_of groups ≤ len) × (len ≤ format_limit)
 
 -- headers that an image of this length may have
 pub record IsHeader (h : ImageHeader) (len : ℕ) : Type 0 where

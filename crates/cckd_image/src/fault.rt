@@ -124,7 +124,7 @@ impl ImageHeader {
         ensures sound { result ≡ None → IsNullFormat (geometry self.now) self.now.cckd.null_fmt }
     {
         let null_fmt = self.cckd.null_fmt;
-        if null_fmt < 2 {
+        if self.geometry().admits(null_fmt) {
             None
         } else {
             Some(HeaderFault::BadNullFormat { value: null_fmt })

@@ -10,6 +10,7 @@ use cckd_base::Order;
 pub struct DevHeader {
     /// The identifier in ASCII.
     pub id: [u8; 8],
+    /// The number of heads, which are the tracks of a cylinder.
     pub heads: u32,
     /// The greatest length of a track in bytes.
     pub track_size: u32,
@@ -19,6 +20,7 @@ pub struct DevHeader {
     pub sequence: u8,
     /// The highest cylinder, which nothing here reads.
     pub highest: u16,
+    /// Bytes that nothing here reads.
     pub reserved: [u8; 492],
 }
 
@@ -26,6 +28,7 @@ pub struct DevHeader {
 /// the cylinders, which have their low byte first in every image.
 #[derive(Clone, Copy, Debug, PartialEq, Eq)]
 pub struct CckdHeader {
+    /// The version in three parts, which nothing here reads.
     pub version: [u8; 3],
     /// Bit 2 names the order, and bit 128 an image that was not closed.
     pub options: u8,
@@ -35,25 +38,36 @@ pub struct CckdHeader {
     pub entries: u32,
     /// The length of the file in bytes, when it was closed.
     pub size: u32,
+    /// Bytes of the file in use.
     pub used: u32,
-    /// The position of the first free space, or 0.
+    /// The position of the first free space in bytes from the file's start, or 0.
     pub free: u32,
+    /// Free bytes of the file.
     pub free_total: u32,
+    /// Bytes of the largest free space.
     pub free_largest: u32,
+    /// The number of free spaces.
     pub free_number: u32,
+    /// Bytes of used spaces behind the stored bytes in them.
     pub free_imbed: u32,
+    /// The number of cylinders.
     pub cyls: u32,
     /// The format of the null tracks of a group without a table.
     pub null_fmt: u8,
+    /// The compression of new tracks, by its number.
     pub compress: u8,
+    /// The parameter of the compression.
     pub param: i16,
+    /// Bytes that nothing here reads.
     pub reserved: [u8; 464],
 }
 
 /// The two headers of an image.
 #[derive(Clone, Copy, Debug, PartialEq, Eq)]
 pub struct ImageHeader {
+    /// Bytes 0 to 511 of the file.
     pub dev: DevHeader,
+    /// Bytes 512 to 1,023 of the file.
     pub cckd: CckdHeader,
 }
 

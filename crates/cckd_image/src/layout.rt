@@ -9,17 +9,24 @@ use crate::header::{ImageHeader, order_in};
 use cckd_base::{Geometry, Layout};
 
 impl ImageHeader {
+    /// The geometry that the headers say.
+    pub(crate) fn geometry(&self) -> Geometry
+        ensures { result ≡ geometry self.now }
+    {
+        Geometry {
+            devtype: self.dev.devtype,
+            heads: self.dev.heads,
+            cyls: self.cckd.cyls,
+            track_size: self.dev.track_size,
+        }
+    }
+
     /// The layout that the headers say.
     pub fn layout(&self) -> Layout
         requires { IsGeometry (geometry self.now) }
         ensures { result ≡ layout_by self.now }
     {
-        let geo = Geometry {
-            devtype: self.dev.devtype,
-            heads: self.dev.heads,
-            cyls: self.cckd.cyls,
-            track_size: self.dev.track_size,
-        };
+        let geo = self.geometry();
         Layout {
             order: order_in(self.cckd.options),
             geo,

@@ -8,17 +8,7 @@ ghost use Rattle.cckd_image.specs.Image.{identifiers_of, dev_header_of, cckd_hea
 
 use crate::header::{CckdHeader, DevHeader, ImageHeader, order_in};
 use crate::roles::Roles;
-use cckd_base::{HeaderFault, Order};
-
-/// The bytes at a place of the headers.
-fn part<const N: usize>(headers: &[u8], at: usize) -> [u8; N]
-    requires { at + N ≤ length headers.now }
-    ensures { result ≡ bytes_at headers.now at N }
-{
-    let mut part = [0; N];
-    part.copy_from_slice(&headers[at..at + N]);
-    part
-}
+use cckd_base::{HeaderFault, Order, part};
 
 /// The number of four bytes at a place of the headers.
 fn number(order: Order, headers: &[u8], at: usize) -> u32
