@@ -41,6 +41,7 @@ pub record IsFormed (file_len : ℕ) (e : Extent) : Type 0 where
   pub holds : e.len ≤ e.size
   pub within : e.pos + e.size ≤ file_len
 
+-- so is each of the spaces
 abbrev pub AreFormed : ℕ → List Extent → Type 0
 AreFormed file_len spaces = AllByRecursion (IsFormed file_len) spaces
 
@@ -82,6 +83,7 @@ IsTableSpace groups size Nobody = Unit {0}
 IsTableSpace groups size Header = Unit {0}
 IsTableSpace groups size (Track t) = Unit {0}
 
+-- so is each of the spaces that is a table's
 abbrev pub AreTableSpaces : ℕ → List Extent → Type 0
 AreTableSpaces groups spaces = AllByRecursion (λ e. IsTableSpace groups e.size e.owner) spaces
 

@@ -10,6 +10,7 @@ use Rattle.cckd_base.specs.declared.misfit.ScanFault.{ScanFault}
 use Rattle.cckd_base.specs.declared.misfit.ScanFault.TheVariants as fault
 use Rattle.cckd_base.specs.Survey.{header_space, misfits, used_spaces, HasNoMisfit, StandApart}
 
+-- the misfit that comes first, if there is one
 abbrev pub first_misfit : List Misfit → Option Misfit
 first_misfit [] = None
 first_misfit (m ∷ ms) = Some m
@@ -31,6 +32,7 @@ pub record AreSpaces (groups file_len : ℕ) (spaces : List Extent) : Type 0 whe
   pub headed : spaces ≡ header_space groups ∷ rest
   pub apart : StandApart 0 spaces file_len
 
+-- where the fault is one of reading, the count rose
 abbrev pub RoseIfRead : ℕ → ℕ → ScanFault → Type 0
 RoseIfRead old new fault.ReadFault = Rose old new
 RoseIfRead old new fault.Memory = Unit {0}

@@ -2,25 +2,12 @@
 ghost use Rattle.std.specs.Prelude.{◌≡◌, ◌+◌, ◌*◌, ◌<◌, ◌≤◌, ◌++◌, length, IfOk, OnOk};
 ghost use Rattle.std.specs.Int.{w32};
 ghost use Rattle.std.specs.Option.{option_to_list};
-ghost use Rattle.cckd_base.specs.Numbers.{bytes_at, number_at};
+ghost use Rattle.cckd_base.specs.Numbers.{number_at};
 ghost use Rattle.cckd_base.specs.Geometry.{IsLayout};
 ghost use Rattle.cckd_tables.specs.Inside.{spaces_in, fault_in, items_of_words, items_of_table, tracks_end};
 
 use crate::items::{entry_item, table_item};
-use cckd_base::{Extent, L2Entry, Layout, Memory, Misfit};
-
-/// Tracks of a group.
-const GROUP: u32 = 256;
-
-/// The bytes at a place.
-fn part<const N: usize>(bytes: &[u8], at: usize) -> [u8; N]
-    requires { at + N ≤ length bytes.now }
-    ensures { result ≡ bytes_at bytes.now at N }
-{
-    let mut part = [0; N];
-    part.copy_from_slice(&bytes[at..at + N]);
-    part
-}
+use cckd_base::{Extent, GROUP_TRACKS, L2Entry, Layout, Memory, Misfit, part};
 
 /// The level-one word of a group.
 fn word_in(l: &Layout, words: &[u8], group: u32) -> u32
@@ -30,6 +17,7 @@ fn word_in(l: &Layout, words: &[u8], group: u32) -> u32
     l.order.u32_of(part(words, 4 * group as usize))
 }
 
+/// Adds a space, where there is one.
 fn add(spaces: &mut Vec<Extent>, space: Option<Extent>) -> Result<(), Memory>
     ensures { OnOk result (spaces.new.items ≡ spaces.old.items ++ option_to_list space) }
 {
@@ -76,10 +64,10 @@ pub(crate) fn collect_tracks(
     ensures fault { IfOk result (λ fault. fault
         ≡ fault_in (items_of_table l.now len bytes.now (256 * group) (tracks_end l.now group))) }
 {
-    let first = GROUP * group;
-    let end = (first + GROUP).min(l.geo.cyls * l.geo.heads);
+    let first = GROUP_TRACKS * group;
+    let end = (first + GROUP_TRACKS).min(l.geo.cyls * l.geo.heads);
     for track in first..end {
-        let at = 8 * (track % GROUP) as usize;
+        let at = 8 * (track % GROUP_TRACKS) as usize;
         let entry = L2Entry::decode(l.order, part(bytes, at));
         match entry_item(l, len, track, entry) {
             Ok(space) => add(spaces, space)?,

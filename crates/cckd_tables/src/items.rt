@@ -4,16 +4,7 @@ ghost use Rattle.cckd_base.specs.declared.misfit.Misfit.TheVariants.{ParentInBas
 ghost use Rattle.cckd_base.specs.Misfit.{is_misplaced, is_missized};
 ghost use Rattle.cckd_base.specs.Survey.{table_item, entry_item};
 
-use cckd_base::{Extent, L2Entry, Layout, Misfit, Owner};
-
-/// Bytes of a level-two table.
-pub(crate) const TABLE_LEN: u32 = 2048;
-
-/// Where the level-one table starts.
-pub(crate) const WORDS_AT: u64 = 1024;
-
-/// The position of a word or an entry that sends to the file below.
-const SEE_PARENT: u32 = 0xffff_ffff;
+use cckd_base::{Extent, L2Entry, Layout, Misfit, Owner, SEE_PARENT, TABLE_LEN, WORDS_AT};
 
 /// The greatest length of stored bytes.
 const STORED_MAX: u16 = 65528;
@@ -22,7 +13,7 @@ const STORED_MAX: u16 = 65528;
 fn is_misplaced(l: &Layout, file_len: u32, pos: u32, len: u32) -> bool
     ensures { result ≡ is_misplaced l.now file_len pos len }
 {
-    let area = WORDS_AT + 4 * u64::from(l.groups);
+    let area = u64::from(WORDS_AT) + 4 * u64::from(l.groups);
     u64::from(pos) < area || u64::from(file_len) < u64::from(pos) + u64::from(len)
 }
 
@@ -81,10 +72,9 @@ pub(crate) fn entry_item(
 {
     let owner = Owner::Track(track);
     if entry.is_null() {
-        return if entry.len < 2 {
-            Ok(None)
-        } else {
-            Err(Misfit::BadEntry { track, entry })
+        return match entry.null_format(&l.geo) {
+            Some(_) => Ok(None),
+            None => Err(Misfit::BadEntry { track, entry }),
         };
     }
     if entry.is_parent() {

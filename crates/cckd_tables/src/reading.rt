@@ -9,13 +9,12 @@ ghost use Rattle.cckd_tables.specs.Scan.{OnlyReads};
 ghost use Rattle.cckd_tables.specs.Inside.{spaces_in, fault_in, IsFormed, IsTableSpace, AreFormed, AreTableSpaces, Adds, IsOutside};
 
 use crate::collecting::collect_tracks;
-use crate::items::{TABLE_LEN, WORDS_AT};
-use cckd_base::{Extent, Layout, Misfit, Owner, ScanFault};
+use cckd_base::{Extent, Layout, Misfit, Owner, ScanFault, TABLE_LEN, WORDS_AT};
 use cckd_shelf::{Slot, Stage};
 use std::alloc::Global;
 
 /// Fills `into` with the file's bytes from `pos` on.
-fn read_at<T: Stage>(stage: &mut T, slot: Slot, pos: u64, into: &mut [u8]) -> Result<(), ScanFault>
+fn read_at<T: Stage>(stage: &mut T, slot: Slot, pos: u32, into: &mut [u8]) -> Result<(), ScanFault>
     requires { T.tells → IsSure (T.world stage.old)
         → pos + length into.old ≤ length (file_of (T.world stage.old) slot) }
     ensures bytes { T.tells → IsSure (T.world stage.old)
@@ -24,7 +23,7 @@ fn read_at<T: Stage>(stage: &mut T, slot: Slot, pos: u64, into: &mut [u8]) -> Re
     ensures kept { T.tells → T.world stage.new ≡ T.world stage.old }
     ensures reads { OnlyReads result (T.faults stage.old) (T.faults stage.new) }
 {
-    let Ok(()) = stage.read(slot, pos, into) else {
+    let Ok(()) = stage.read(slot, u64::from(pos), into) else {
         return Err(ScanFault::ReadFault);
     };
     Ok(())
@@ -82,7 +81,7 @@ fn read_tracks<T: Stage>(
         return Ok(None);
     };
     let mut bytes = [0; TABLE_LEN as usize];
-    read_at(stage, slot, u64::from(table.pos), &mut bytes)?;
+    read_at(stage, slot, table.pos, &mut bytes)?;
     let Ok(fault) = collect_tracks(l, len, group, &bytes, spaces) else {
         return Err(ScanFault::Memory);
     };

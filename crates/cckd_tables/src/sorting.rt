@@ -6,6 +6,7 @@ ghost use Rattle.cckd_tables.specs.Inside.{AreApart, AreShared, AreFormed, stand
 
 use cckd_base::{Extent, Memory};
 
+/// Puts the spaces in order of position.
 fn sort(spaces: &mut Vec<Extent>)
     ensures moved { IsPermutation spaces.old.items spaces.new.items }
     ensures sorted { IsNonDecreasingBy (λ e. e.pos) spaces.new.items }

@@ -6,7 +6,7 @@ ghost use Rattle.cckd_tables.specs.Inside.{items_of_words, SettlesTables, IsInsi
 
 use crate::collecting::collect_tables;
 use crate::judging::judge;
-use cckd_base::{Extent, Layout, Owner, ScanFault};
+use cckd_base::{Extent, Layout, Owner, ScanFault, WORDS_AT};
 use std::alloc::Global;
 
 /// The headers and the level-one table.
@@ -14,7 +14,7 @@ fn header_space(l: &Layout, len: u32) -> Extent
     requires { area_of l.now.groups ≤ len }
     ensures { result ≡ header_space l.now.groups }
 {
-    let area = 1024 + 4 * l.groups;
+    let area = WORDS_AT + 4 * l.groups;
     Extent {
         pos: 0,
         len: area,

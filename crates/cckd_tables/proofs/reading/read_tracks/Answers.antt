@@ -1,5 +1,4 @@
-use Rattle.std.proofs.Common.{ℕ, ◌*◌, ◌++◌, List, ◌∙◌, ap}
-use Rattle.cckd_base.specs.Numbers.{bytes_at}
+use Rattle.std.proofs.Common.{◌*◌, ◌++◌, List, ◌∙◌, ap}
 use Rattle.cckd_base.specs.Survey.{Item}
 use Rattle.cckd_shelf.specs.World.{file_of}
 use Rattle.cckd_tables.specs.Inside.{spaces_in, fault_in, items_of_table, tracks_end}
@@ -11,8 +10,7 @@ pub returns-clause-spaces : goal.returns-clause-spaces
 returns-clause-spaces g c = λ told sure.
     let same = table_of_file c.args.l.now c.args.len (file_of (g.T.Shelf.world c.args.stage.now) c.args.slot) c.read_at.new.into c.args.table.now c.in-Table.group
     (c.requires.length told sure)
-    (c.in_ok-read_at.ensures.bytes told sure
-    ∙ ap (λ (at : ℕ). bytes_at (file_of (g.T.Shelf.world c.args.stage.now) c.args.slot) at 2048) c.from.ensures)
+    (c.in_ok-read_at.ensures.bytes told sure)
     c.in-Table.is in
     c.in-Ok.ensures.spaces ∙ ap (λ (is : List Item). c.args.spaces.now.items ++ spaces_in is) same
 
@@ -20,8 +18,7 @@ pub returns-clause-fault : goal.returns-clause-fault
 returns-clause-fault g c = λ told sure.
     let same = table_of_file c.args.l.now c.args.len (file_of (g.T.Shelf.world c.args.stage.now) c.args.slot) c.read_at.new.into c.args.table.now c.in-Table.group
     (c.requires.length told sure)
-    (c.in_ok-read_at.ensures.bytes told sure
-    ∙ ap (λ (at : ℕ). bytes_at (file_of (g.T.Shelf.world c.args.stage.now) c.args.slot) at 2048) c.from.ensures)
+    (c.in_ok-read_at.ensures.bytes told sure)
     c.in-Table.is in
     c.in-Ok.ensures.fault ∙ ap fault_in same
 
