@@ -110,6 +110,7 @@ head_stops line end column cylinder first second =
 abbrev pub read_tokens : Addr → List (List ℕ)
 read_tokens at = codes "read" ∷ decimal at.cyl ∷ decimal at.head ∷ []
 
+-- the address of this cylinder and head
 abbrev addr : ℕ → ℕ → Addr
 addr cylinder head = record { cyl = cylinder; head = head }
 

@@ -59,10 +59,11 @@ misreading_text (misreading.LineFault column) = codes "refused: line fault at co
 misreading_text misreading.LineTooLong = codes "refused: line too long"
 misreading_text misreading.ScriptTooLong = codes "refused: script too long"
 
--- the lines of both
+-- the line of a reply
 abbrev pub reply_line : Call → Reply → List ℕ → List ℕ
 reply_line call answer bytes = line (reply_text call answer bytes)
 
+-- the line of a line that is refused
 abbrev pub misreading_line : Misreading → List ℕ
 misreading_line why = line (misreading_text why)
 
@@ -85,7 +86,7 @@ answered_length (reply.Refused why) = 0
 abbrev pub answered_bytes : Reply → List ℕ → List ℕ
 answered_bytes answer buffer = take (answered_length answer) buffer
 
--- Each number is one of its type: of a track fault, a refusal, a reply.
+-- each number of a track fault is one of its type
 abbrev pub FaultFits : TrackFault → Type 0
 FaultFits (TooLong len max) = (len < 2 ^ 32) × (max < 2 ^ 32)
 FaultFits (NoEnd at) = at < 2 ^ 32
@@ -93,11 +94,13 @@ FaultFits (Compressed byte) = byte < 2 ^ 8
 FaultFits (WrongTrack cyl head) = (cyl < 2 ^ 16) × (head < 2 ^ 16)
 FaultFits (BadRecord at) = at < 2 ^ 32
 
+-- so is each number of a refusal
 abbrev pub RefusalFits : Refusal → Type 0
 RefusalFits refusal.NoSuchTrack = Unit {0}
 RefusalFits (refusal.Track fault) = FaultFits fault
 RefusalFits refusal.ReadFault = Unit {0}
 
+-- so is each number of a reply
 abbrev pub ReplyFits : Reply → Type 0
 ReplyFits (reply.Track len) = len < 2 ^ 32
 ReplyFits reply.Closed = Unit {0}

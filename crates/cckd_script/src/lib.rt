@@ -1,7 +1,6 @@
 //! The lines of a script and of its replies: how one is read, and what is printed for each reply.
 #![tactic(auto)]
 
-mod item;
 mod misread;
 mod parse;
 mod print;
@@ -10,7 +9,6 @@ mod put;
 mod tests;
 mod text;
 
-pub use item::line_item;
 pub use misread::{Item, Misreading};
 pub use parse::{LineFault, What, parse_line};
 pub use print::{ANSWER_LIMIT, LINE_ROOM, print_misreading, print_reply};

@@ -14,6 +14,8 @@ pub enum Misreading {
 /// What has one reply in a script.
 #[derive(Clone, Copy, Debug, PartialEq, Eq)]
 pub enum Item {
+    /// A call that a line asks, or the one that ends a run.
     Asked(Call),
+    /// A line that is refused, or a script that is too long.
     Misread(Misreading),
 }

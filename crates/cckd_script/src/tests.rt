@@ -1,10 +1,7 @@
 ghost use Rattle.std.specs.Prelude.{◌≡◌, ◌≤◌, length, vec_len, IfOk};
 ghost use Rattle.cckd_script.specs.Text.{FitsCall, answered_length};
 
-use crate::{
-    Item, LINE_LIMIT, LINE_ROOM, LineFault, Misreading, What, line_item, parse_line,
-    print_misreading, print_reply,
-};
+use crate::{LINE_ROOM, LineFault, Misreading, What, parse_line, print_misreading, print_reply};
 use cckd_base::{Addr, Call, Refusal, Reply, TrackFault};
 use std::alloc::{AllocError, Global};
 use std::test::Fail;
@@ -79,18 +76,6 @@ fn lines_are_read_or_wrong_at_their_first_wrong_token(rt: HostRuntime) {
     for (line, answer) in rows {
         assert_eq!(rt; parse_line(line), answer);
     }
-}
-
-#[test]
-fn a_line_of_exactly_the_limit_is_read(rt: HostRuntime) -> Result<(), Fail> {
-    let line = zeros(rt.alloc(), LINE_LIMIT + 1)?;
-    assert_eq!(rt;
-        line_item(&line),
-        Some(Item::Misread(Misreading::LineTooLong))
-    );
-    let first = Misreading::LineFault { column: 1 };
-    assert_eq!(rt; line_item(&line[1..]), Some(Item::Misread(first)));
-    Ok(())
 }
 
 #[test]
