@@ -23,12 +23,15 @@ part_written bytes part at end a b c h next written kept = record {
 pub front_is : (bytes : List ℕ) (at : ℕ) (old new : List ℕ) → HasFront bytes at old new → new ≡ bytes ++ drop at old
 front_is bytes at old new h = rw (← h.front, ← h.kept at (omega arith)) (sym (take-append-drop at new))
 
+-- the home address of a null track: a flag byte 0, cylinder and head
 abbrev pub home_of : ℕ → ℕ → List ℕ
 home_of cylinder head = 0 ∷ address_bytes cylinder head
 
+-- the count of a record without a key
 abbrev pub count_of : ℕ → ℕ → ℕ → ℕ → List ℕ
 count_of cylinder head number body = address_bytes cylinder head ++ number ∷ 0 ∷ [] ++ to_be_bytes w16 body
 
+-- a null track up to the end of record zero
 abbrev pub record_zero_front : ℕ → ℕ → List ℕ
 record_zero_front cylinder head = home_of cylinder head ++ count_of cylinder head 0 8 ++ replicate 8 0
 

@@ -93,6 +93,7 @@ fn judge_end(at: usize, rest: &[u8]) -> Option<TrackFault>
     }
 }
 
+/// The fault of a place where no record may stand.
 fn bad_record(at: usize) -> TrackFault
     requires { at ≤ 65535 }
     ensures { result ≡ TrackFault.BadRecord at }

@@ -32,6 +32,7 @@ impl Unit for Ckd {
         check_records(bytes)
     }
 
+    /// Record one stands behind record zero in format 0 alone.
     fn null(l: &Layout, t: Track, fmt: u8, out: &mut [u8]) -> u16 {
         let a = l.geo.addr(t);
         let at = put(out, 0, &home_bytes(a));

@@ -21,6 +21,7 @@ const WRITTEN: &[u8] = &[
     0, 0, 0, 0, 1, 0, 0, 8, 0xaa, 0xaa, 0xaa, 0xaa, 0xaa, 0xaa, 0xaa, 0xaa,
 ];
 
+/// An end mark.
 const END: &[u8] = &[0xff; 8];
 
 /// A 2311.
