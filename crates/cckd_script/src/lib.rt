@@ -12,8 +12,7 @@ mod text;
 pub use misread::{Item, Misreading};
 pub use parse::{LineFault, What, parse_line};
 pub use print::{ANSWER_LIMIT, LINE_ROOM, print_misreading, print_reply};
-pub use put::{NUMBER_ROOM, put_bytes, put_hex, put_number, put_pair};
-pub use text::{put_misreading, put_refusal, put_reply, put_track_fault};
+pub use put::{NUMBER_ROOM, put_bytes, put_number};
 
 /// The most bytes of a script's line, without its line feed.
 pub const LINE_LIMIT: usize = 131_072;

@@ -31,7 +31,7 @@ pub fn put_number(line: &mut [u8], at: usize, number: u64) -> usize
 
 /// Puts two numbers with a blank between them.
 #[tactic(auto, using(crate::proofs::PutLemmas::puts_join))]
-pub fn put_pair(line: &mut [u8], at: usize, a: u64, b: u64) -> usize
+pub(crate) fn put_pair(line: &mut [u8], at: usize, a: u64, b: u64) -> usize
     requires { at + 50 ≤ length line.old }
     ensures put { IsPut at result (pair_text a b) line.old line.new }
     ensures short { result ≤ at + 50 }
@@ -42,7 +42,7 @@ pub fn put_pair(line: &mut [u8], at: usize, a: u64, b: u64) -> usize
 }
 
 /// Puts bytes as two hexadecimal digits each, and `-` for no bytes.
-pub fn put_hex(line: &mut [u8], at: usize, bytes: &[u8]) -> usize
+pub(crate) fn put_hex(line: &mut [u8], at: usize, bytes: &[u8]) -> usize
     requires { at + 2 * length bytes.now + 1 ≤ length line.old }
     ensures put { IsPut at result (hex_text bytes.now) line.old line.new }
     ensures short { result ≤ at + 2 * length bytes.now + 1 }

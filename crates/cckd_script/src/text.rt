@@ -2,7 +2,7 @@
 
 ghost use Rattle.std.specs.Prelude.{◌≡◌, ◌+◌, ◌*◌, ◌≤◌, length};
 ghost use Rattle.cckd_script.specs.Put.{IsPut};
-ghost use Rattle.cckd_script.specs.Text.{track_fault_text, refusal_text, track_text, reply_text, misreading_text, answered_length, answered_bytes, FaultFits, RefusalFits, ReplyFits};
+ghost use Rattle.cckd_script.specs.Text.{track_fault_text, refusal_text, track_text, reply_text, misreading_text, answered_length, answered_bytes, FaultFits, RefusalFits, ReplyFits, FitsCall};
 
 use crate::misread::Misreading;
 use crate::put::{put_bytes, put_hex, put_number, put_pair};
@@ -10,7 +10,7 @@ use cckd_base::{Call, Refusal, Reply, TrackFault};
 
 /// Puts the text of a track fault.
 #[tactic(auto, using(crate::proofs::PutLemmas::puts_join))]
-pub fn put_track_fault(line: &mut [u8], at: usize, fault: TrackFault) -> usize
+fn put_track_fault(line: &mut [u8], at: usize, fault: TrackFault) -> usize
     requires { at + 100 ≤ length line.old }
     ensures put { IsPut at result (track_fault_text fault) line.old line.new }
     ensures short { result ≤ at + 100 }
@@ -44,7 +44,7 @@ pub fn put_track_fault(line: &mut [u8], at: usize, fault: TrackFault) -> usize
 
 /// Puts the text of a refusal.
 #[tactic(auto, using(crate::proofs::PutLemmas::puts_join))]
-pub fn put_refusal(line: &mut [u8], at: usize, why: Refusal) -> usize
+fn put_refusal(line: &mut [u8], at: usize, why: Refusal) -> usize
     requires { at + 120 ≤ length line.old }
     ensures put { IsPut at result (refusal_text why) line.old line.new }
     ensures short { result ≤ at + 120 }
@@ -63,7 +63,8 @@ pub fn put_refusal(line: &mut [u8], at: usize, why: Refusal) -> usize
 /// Puts the text of a track of `len` bytes, where these bytes are its value.
 #[tactic(auto, using(crate::proofs::PutLemmas::puts_join))]
 fn put_track(line: &mut [u8], at: usize, call: Call, len: u32, value: &[u8]) -> usize
-    requires { at + 150 + 2 * length value.now ≤ length line.old }
+    requires fits { FitsCall call (Reply.Track len) }
+    requires room { at + 150 + 2 * length value.now ≤ length line.old }
     ensures put { IsPut at result (track_text call len value.now) line.old line.new }
     ensures short { result ≤ at + 150 + 2 * length value.now }
 {
@@ -76,12 +77,13 @@ fn put_track(line: &mut [u8], at: usize, call: Call, len: u32, value: &[u8]) -> 
             let end = put_bytes(line, end, b" ");
             put_hex(line, end, value)
         }
-        Call::Close => at,
+        Call::Close => unreachable!(),
     }
 }
 
 /// Puts the text of a reply, whose bytes stand at the front of `out`.
-pub fn put_reply(line: &mut [u8], at: usize, call: Call, reply: Reply, out: &[u8]) -> usize
+pub(crate) fn put_reply(line: &mut [u8], at: usize, call: Call, reply: Reply, out: &[u8]) -> usize
+    requires fits { FitsCall call reply }
     requires answered { answered_length reply ≤ length out.now }
     requires room { at + 150 + 2 * answered_length reply ≤ length line.old }
     ensures put { IsPut at result
@@ -98,7 +100,7 @@ pub fn put_reply(line: &mut [u8], at: usize, call: Call, reply: Reply, out: &[u8
 
 /// Puts why a line is refused.
 #[tactic(auto, using(crate::proofs::PutLemmas::puts_join))]
-pub fn put_misreading(line: &mut [u8], at: usize, why: Misreading) -> usize
+pub(crate) fn put_misreading(line: &mut [u8], at: usize, why: Misreading) -> usize
     requires { at + 60 ≤ length line.old }
     ensures put { IsPut at result (misreading_text why) line.old line.new }
     ensures short { result ≤ at + 60 }
