@@ -4,6 +4,7 @@ pub mod FirstLemmas
 pub mod MergeLemmas
 pub mod NumberLemmas
 pub mod SearchLemmas
+pub mod MarkLemmas
 pub mod KeptLemmas
 pub mod CallerLemmas
 pub mod UsedLemmas

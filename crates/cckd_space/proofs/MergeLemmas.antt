@@ -94,7 +94,7 @@ apart_back [] ys h = h
 apart_back (x ∷ xs) ys h = apart_back xs ys h.1
 
 -- a joined list begins as Free as its first piece was
-joined_over : (f q : Piece) (ys : List Piece) → (is_free f && is_free q) ≡ false → joined f (joined q ys) ≡ f ∷ joined q ys
+pub joined_over : (f q : Piece) (ys : List Piece) → (is_free f && is_free q) ≡ false → joined f (joined q ys) ≡ f ∷ joined q ys
 joined_over f q [] h = rw h refl
 joined_over f q (y ∷ ys) h = by (is_free q && is_free y) refl
   where
@@ -138,6 +138,20 @@ freed_first old now at d a f z =
     ∙ (sym (ap (joined (freed (get_or old at d))) (merged_same (drop (at + 1) old) back))
     ∙ sym (ap (λ (l : List Piece). merged (l ++ freed (get_or old at d) ∷ drop (at + 1) old)) none)))
 
+-- a merge once a piece is Free
+pub merged_freed : (old : List Piece) (at before : ℕ) (d : Piece) → AreApart old → at < length old → before + 1 ≡ at
+    → merged (take at old ++ freed (get_or old at d) ∷ drop (at + 1) old) ≡ take before old ++ joined (get_or old before d) (joined (freed (get_or old at d)) (drop (at + 1) old))
+merged_freed old at before d a l e =
+    let x = freed (get_or old at d) in
+    let ys = drop (at + 1) old in
+    let q = get_or old before d in
+    let xs = take before old in
+    let back : AreApart ys = apart_back (take (at + 1) old) ys (subst AreApart (sym (take-append-drop (at + 1) old)) a) in
+    let front : AreApart (xs ++ q ∷ []) = apart_front xs q (drop (before + 1) old) (subst AreApart (split_here old before d (omega arith)) a) in
+    let fore : take at old ≡ xs ++ q ∷ [] = ap (λ (m : ℕ). take m old) (sym e) ∙ take_more old before d (omega arith) in
+    let whole : take at old ++ x ∷ ys ≡ xs ++ q ∷ x ∷ ys = ap (λ (l : List Piece). l ++ x ∷ ys) fore ∙ append_assoc xs (q ∷ []) (x ∷ ys) in
+    ap merged whole ∙ merged_around xs q x ys front back
+
 pub freed_later : (old now new : List Piece) (at before : ℕ) (d : Piece) → AreApart old → IsFreedAt old now at d → before + 1 ≡ at
     → new ≡ take before now ++ joined (get_or now before d) (drop (before + 1) now) → new ≡ merged (take at old ++ freed (get_or old at d) ∷ drop (at + 1) old)
 freed_later old now new at before d a f e n =
@@ -145,15 +159,11 @@ freed_later old now new at before d a f e n =
     let ys = drop (at + 1) old in
     let q = get_or old before d in
     let xs = take before old in
-    let back : AreApart ys = apart_back (take (at + 1) old) ys (subst AreApart (sym (take-append-drop (at + 1) old)) a) in
-    let front : AreApart (xs ++ q ∷ []) = apart_front xs q (drop (before + 1) old) (subst AreApart (split_here old before d (omega (arith, f.within))) a) in
-    let fore : take at old ≡ xs ++ q ∷ [] = ap (λ (m : ℕ). take m old) (sym e) ∙ take_more old before d (omega (arith, f.within)) in
     let long : length (take at old) ≡ at = length-take-le at old (omega (arith, f.within)) in
     let u : take before now ≡ xs = ap (take before) f.is ∙ (take-append-le before (take at old) (joined x ys) (omega arith) ∙ take-take before at old (omega arith)) in
     let v : get_or now before d ≡ q = ap (λ (l : List Piece). get_or l before d) f.is ∙ (get_or_append_left (take at old) (joined x ys) d before (omega arith) ∙ get_or-take at old before d (omega arith)) in
     let w : drop (before + 1) now ≡ joined x ys = ap (λ (m : ℕ). drop m now) e ∙ (ap (drop at) f.is ∙ drop_at (take at old) (joined x ys) at long) in
-    let whole : take at old ++ x ∷ ys ≡ xs ++ q ∷ x ∷ ys = ap (λ (l : List Piece). l ++ x ∷ ys) fore ∙ append_assoc xs (q ∷ []) (x ∷ ys) in
-    n ∙ (rw (u, v, w) refl ∙ (sym (merged_around xs q x ys front back) ∙ sym (ap merged whole)))
+    n ∙ (rw (u, v, w) refl ∙ sym (merged_freed old at before d a f.within e))
 
 -- a piece joined with the next, as the code leaves the list
 

@@ -7,10 +7,11 @@ use Rattle.cckd_base.specs.declared.space.Owner.TheVariants.{Nobody}
 use Rattle.cckd_space.specs.declared.piece.Kind.TheVariants.{Used}
 use Rattle.cckd_space.specs.declared.piece.Piece.{Piece}
 use Rattle.cckd_space.specs.Pieces.{is_free, is_roomy, is_roomy_from, is_reserved_at, is_used_at, used_kind, reserved_kind, has_room, has_room_below, aligned_up, piece_end, first, IsLaid}
-use Rattle.cckd_space.specs.Inside.{IsShut, IsInOrder, StartsAt}
+use Rattle.cckd_space.specs.Inside.{IsShut, IsInOrder, StartsAt, is_open}
+use Rattle.cckd_space.proofs.LaidLemmas.{room_facts}
 use Rattle.cckd_space.proofs.FirstLemmas.{IsFirstAt, is_first, none_passes}
 
-pub shut_at : (n : ℕ) (ps : List Piece) (k : ℕ) (d : Piece) → IsShut n ps → k < n → is_free (get_or ps k d) ≡ false
+pub shut_at : (n : ℕ) (ps : List Piece) (k : ℕ) (d : Piece) → IsShut n ps → k < n → is_open (get_or ps k d) ≡ false
 shut_at zero ps k d h l = absurd (omega arith)
 shut_at (suc n) [] k d h l = absurd h
 shut_at (suc n) (p ∷ ps) zero d h l = h.0
@@ -21,12 +22,12 @@ shut_within zero ps h = omega arith
 shut_within (suc n) [] h = absurd h
 shut_within (suc n) (p ∷ ps) h = let r = shut_within n ps h.1 in omega (arith, r)
 
-pub shut_more : (n : ℕ) (ps : List Piece) (d : Piece) → IsShut n ps → n < length ps → is_free (get_or ps n d) ≡ false → IsShut (suc n) ps
+pub shut_more : (n : ℕ) (ps : List Piece) (d : Piece) → IsShut n ps → n < length ps → is_open (get_or ps n d) ≡ false → IsShut (suc n) ps
 shut_more n [] d h l e = absurd (omega arith)
 shut_more zero (p ∷ ps) d h l e = (e, tt)
 shut_more (suc n) (p ∷ ps) d h l e = (h.0, shut_more n ps d h.1 (omega arith) e)
 
-pub shut_next : (n : ℕ) (ps : List Piece) (d : Piece) → IsShut n ps → n < length ps → is_free (get_or ps n d) ≡ false → IsShut (n + 1) ps
+pub shut_next : (n : ℕ) (ps : List Piece) (d : Piece) → IsShut n ps → n < length ps → is_open (get_or ps n d) ≡ false → IsShut (n + 1) ps
 shut_next n ps d h l e = subst (λ (m : ℕ). IsShut m ps) (sym (add-one n)) (shut_more n ps d h l e)
 
 module _ (test : Piece → Bool) where
@@ -67,6 +68,12 @@ module _ (test : Piece → Bool) where
 
   pub none_at : (xs : List Piece) (k : ℕ) (d : Piece) → position test xs ≡ None → k < length xs → test (get_or xs k d) ≡ false
   none_at xs k d e l = fails_at xs k d (none_len xs e) l
+
+  pub none_before : (xs : List Piece) (d : Piece) → position test xs ≡ None → position_or_len test xs ≡ length xs
+  none_before xs d e = failed_len xs d (λ k l. none_at xs k d e l)
+
+  pub some_before : (xs : List Piece) (i : ℕ) (d : Piece) → position test xs ≡ Some i → position_or_len test xs ≡ i
+  some_before xs i d e = passed_len xs i d (is_first test xs i d e)
 
   -- a part of the list, outside which no piece passes
   pub record IsWhere (xs : List Piece) (from len : ℕ) : Type 0 where
@@ -113,8 +120,8 @@ module _ (test : Piece → Bool) where
 free_first : (a b : Bool) → a ≡ false → (a && b) ≡ false
 free_first a b e = rw e refl
 
--- only Free pieces pass, so none before the first of them does
-pub where_shut : (test : Piece → Bool) → ((p : Piece) → is_free p ≡ false → test p ≡ false) → (xs : List Piece) (solid : ℕ) → IsShut solid xs → IsWhere test xs solid (length xs - solid)
+-- only pieces that offer 8 bytes pass, so none before the first of them does
+pub where_shut : (test : Piece → Bool) → ((p : Piece) → is_open p ≡ false → test p ≡ false) → (xs : List Piece) (solid : ℕ) → IsShut solid xs → IsWhere test xs solid (length xs - solid)
 where_shut test only xs solid h =
     let w = shut_within solid xs h in
     record {
@@ -123,17 +130,21 @@ where_shut test only xs solid h =
       behind = λ k d o l. absurd (omega (arith, w));
     }
 
-pub room_shut : (need : ℕ) (p : Piece) → is_free p ≡ false → has_room need p ≡ false
-room_shut need p e = free_first (is_free p) (nat_le (aligned_up p.pos + need) (piece_end p)) e
+-- what isn't Free offers none
+pub free_shut : (p : Piece) → is_free p ≡ false → is_open p ≡ false
+free_shut p e = free_first (is_free p) (nat_le (aligned_up p.pos + 8) (piece_end p)) e
 
-pub roomy_shut : (p : Piece) → is_free p ≡ false → is_roomy p ≡ false
-roomy_shut p e = free_first (is_free p) (nat_le 8 p.size) e
+-- where 8 bytes or more fit, 8 do
+pub room_open : (need : ℕ) (p : Piece) → 8 ≤ need → has_room need p ≡ true → is_open p ≡ true
+room_open need p some e =
+    let r = room_facts need p e in
+    rw r.free (le-leb (aligned_up p.pos + 8) (piece_end p) (omega (arith, r.fits)))
 
-pub room_below_shut : (need before : ℕ) (p : Piece) → is_free p ≡ false → has_room_below need before p ≡ false
-room_below_shut need before p e = free_first (has_room need p) (nat_le (aligned_up p.pos + need) before) (room_shut need p e)
+pub room_shut : (need : ℕ) → 8 ≤ need → (p : Piece) → is_open p ≡ false → has_room need p ≡ false
+room_shut need some p e = false_from_ne_true (has_room need p) (λ h. let g : true ≡ false = sym (room_open need p some h) ∙ e in cc)
 
-pub roomy_from_shut : (from : ℕ) (p : Piece) → is_free p ≡ false → is_roomy_from from p ≡ false
-roomy_from_shut from p e = free_first (is_roomy p) (nat_le from p.pos) (roomy_shut p e)
+pub room_below_shut : (need before : ℕ) → 8 ≤ need → (p : Piece) → is_open p ≡ false → has_room_below need before p ≡ false
+room_below_shut need before some p e = free_first (has_room need p) (nat_le (aligned_up p.pos + need) before) (room_shut need some p e)
 
 -- a space that ends at or below a place is in a piece that begins before it
 too_far : (need before : ℕ) (p : Piece) → 0 < need → before ≤ p.pos → has_room_below need before p ≡ false
@@ -141,12 +152,12 @@ too_far need before p some h = false_from_ne_true (has_room_below need before p)
     let l = leb-true (aligned_up p.pos + need) before (and_parts (has_room need p) (nat_le (aligned_up p.pos + need) before) e).1 in
     omega (arith, l))
 
-pub where_below : (need before : ℕ) (xs : List Piece) (solid at end : ℕ) → 0 < need → IsShut solid xs → solid ≤ length xs → StartsAt before xs at → end ≡ max at solid
+pub where_below : (need before : ℕ) (xs : List Piece) (solid at end : ℕ) → 8 ≤ need → IsShut solid xs → solid ≤ length xs → StartsAt before xs at → end ≡ max at solid
     → IsWhere (has_room_below need before) xs solid (end - solid)
 where_below need before xs solid at end some h w s e = record {
   within = omega (arith, s.within);
-  before = λ k d m. room_below_shut need before (get_or xs k d) (shut_at solid xs k d h m);
-  behind = λ k d o m. too_far need before (get_or xs k d) some (s.behind k d (omega arith) m);
+  before = λ k d m. room_below_shut need before some (get_or xs k d) (shut_at solid xs k d h m);
+  behind = λ k d o m. too_far need before (get_or xs k d) (omega arith) (s.behind k d (omega arith) m);
 }
 
 -- a piece that starts before a place isn't one from it on
@@ -155,14 +166,10 @@ too_near from p h = false_from_ne_true (is_roomy_from from p) (λ e.
     let l = leb-true from p.pos (and_parts (is_roomy p) (nat_le from p.pos) e).1 in
     omega (arith, l))
 
-pub where_from : (from : ℕ) (xs : List Piece) (solid at start : ℕ) → IsShut solid xs → solid ≤ length xs → StartsAt from xs at → start ≡ max at solid
-    → IsWhere (is_roomy_from from) xs start (length xs - start)
-where_from from xs solid at start h w s e = record {
+pub where_from : (from : ℕ) (xs : List Piece) (at : ℕ) → StartsAt from xs at → IsWhere (is_roomy_from from) xs at (length xs - at)
+where_from from xs at s = record {
   within = omega (arith, s.within);
-  before = λ k d m. elim (cases_lt k at) [
-    | inl lt ↦ too_near from (get_or xs k d) (s.before k d lt)
-    | inr ge ↦ roomy_from_shut from (get_or xs k d) (shut_at solid xs k d h (omega arith))
-  ];
+  before = λ k d m. too_near from (get_or xs k d) (s.before k d m);
   behind = λ k d u m. absurd (omega (arith, s.within));
 }
 

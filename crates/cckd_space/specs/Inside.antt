@@ -1,23 +1,57 @@
 -- What always holds of the fields of a `Space`, and words for its parts.
-use Rattle.std.specs.Prelude.{◌≡◌, ℕ, zero, suc, ◌+◌, ◌<◌, ◌≤◌, false, List, [], ◌∷◌, ◌++◌, length, slice_index_or}
+use Rattle.std.specs.Prelude.{◌≡◌, ℕ, zero, suc, ◌+◌, ◌<◌, ◌≤◌, Bool, true, false, List, [], ◌∷◌, ◌++◌, length, slice_index_or}
+use Rattle.cckd_space.specs.declared.piece.Kind.{Kind}
+use Rattle.cckd_space.specs.declared.piece.Kind.TheVariants.{Used, Free, Reserved, Leaving, Pending}
 use Rattle.cckd_space.specs.declared.piece.Piece.{Piece}
-use Rattle.cckd_space.specs.Pieces.{IsApart, IsLaid, is_free, largest, piece_end}
+use Rattle.cckd_space.specs.Pieces.{IsApart, IsLaid, counted, has_room, largest, piece_end}
 
--- so many first pieces are there, and none of them is Free
+-- a Free piece in which 8 bytes fit, the least that may be asked for
+abbrev pub is_open : Piece → Bool
+is_open = has_room 8
+
+-- so many first pieces are there, and none of them offers 8 bytes
 abbrev pub IsShut : ℕ → List Piece → Type 0
 IsShut zero ps = Unit {0}
 IsShut (suc n) [] = ⊥
-IsShut (suc n) (p ∷ ps) = (is_free p ≡ false) × IsShut n ps
+IsShut (suc n) (p ∷ ps) = (is_open p ≡ false) × IsShut n ps
+
+-- the bytes of a Leaving piece wait for their replacing entry to be written
+abbrev pub leaving_kind : Kind → Bool
+leaving_kind Leaving = true
+leaving_kind Used = false
+leaving_kind Free = false
+leaving_kind Reserved = false
+leaving_kind Pending = false
+
+-- the bytes of a Pending piece wait for a sync
+abbrev pub pending_kind : Kind → Bool
+pending_kind Pending = true
+pending_kind Used = false
+pending_kind Free = false
+pending_kind Reserved = false
+pending_kind Leaving = false
+
+abbrev pub is_leaving : Piece → Bool
+is_leaving p = leaving_kind p.kind
+
+abbrev pub is_pending : Piece → Bool
+is_pending p = pending_kind p.kind
+
+-- where a mark is false, there is no Leaving piece, or no Pending one
+pub record IsMarked (pieces : List Piece) (leaving pending : Bool) : Type 0 where
+  pub none_leaving : leaving ≡ false → counted is_leaving pieces ≡ 0
+  pub none_pending : pending ≡ false → counted is_pending pieces ≡ 0
 
 -- the pieces cover the file, there are no more than the slots, and there is memory for as many as the slots;
--- no piece before an index is Free, and none offers more than a number of bytes
-pub record IsKept (pieces : List Piece) (size slots capacity solid most : ℕ) : Type 0 where
+-- no piece before an index offers 8 bytes, none offers more than a number, and the marks of leaving and pending pieces are true
+pub record IsKept (pieces : List Piece) (size slots capacity solid most : ℕ) (leaving pending : Bool) : Type 0 where
   pub laid : IsLaid 0 pieces size
   pub fewer : length pieces ≤ slots
   pub room : slots ≤ capacity
   pub within : solid ≤ length pieces
   pub shut : IsShut solid pieces
   pub offers : largest pieces ≤ most
+  pub marked : IsMarked pieces leaving pending
 
 -- each piece begins before those behind it
 pub record IsInOrder (pieces : List Piece) : Type 0 where

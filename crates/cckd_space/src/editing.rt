@@ -82,14 +82,14 @@ pub(crate) fn reserve_found(pieces: &mut Vec<Piece>, at: usize, need: u32) -> u3
 }
 
 /// Reserves so many bytes at the first fit that ends at or below a place, and answers where. No
-/// piece before `solid` is Free.
+/// piece before `solid` offers 8.
 pub(crate) fn reserve_below(
     pieces: &mut Vec<Piece>,
     solid: usize,
     need: u32,
     before: u32,
 ) -> Option<u32>
-    requires some { 0 < need }
+    requires some { 8 ≤ need }
     requires within { solid ≤ vec_len pieces.old }
     requires shut { IsShut solid pieces.old.items }
     requires order { IsInOrder pieces.old.items }
@@ -284,7 +284,7 @@ fn merge_slice(pieces: &mut [Piece]) -> usize
     kept
 }
 
-fn turn(pieces: &mut [Piece], kept: usize)
+fn rotate(pieces: &mut [Piece], kept: usize)
     requires { kept ≤ length pieces.old }
     ensures { pieces.new ≡ drop kept pieces.old ++ take kept pieces.old }
 {
@@ -301,7 +301,7 @@ fn merge_front(pieces: &mut Vec<Piece>) -> usize
     let slice = pieces.as_mut_slice();
     let kept = merge_slice(slice);
     let count = slice.len();
-    turn(slice, kept);
+    rotate(slice, kept);
     count - kept
 }
 

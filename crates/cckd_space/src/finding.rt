@@ -1,7 +1,8 @@
 //! Where a piece stands in the list.
 ghost use Rattle.std.specs.Prelude.{◌≡◌, ◌<◌, ◌≤◌, length, position, IsSome, IsTrue, Some, slice_index_or};
-ghost use Rattle.cckd_space.specs.Inside.{IsInOrder, IsShut, StartsAt};
-ghost use Rattle.cckd_space.specs.Pieces.{first, has_room, has_room_below, is_free, is_reserved_at, is_roomy_from, is_used_at};
+ghost use Rattle.std.specs.List.{position_or_len};
+ghost use Rattle.cckd_space.specs.Inside.{IsInOrder, IsShut, StartsAt, is_open, is_pending};
+ghost use Rattle.cckd_space.specs.Pieces.{first, has_room, has_room_below, is_reserved_at, is_roomy_from, is_used_at};
 
 use crate::piece::Piece;
 
@@ -31,18 +32,18 @@ pub(crate) fn used_index(pieces: &[Piece], pos: u32) -> usize
     start_index(pieces, pos)
 }
 
-/// The index of the first Free piece, none of which stands before `solid`, or else the number of
-/// pieces.
-pub(crate) fn free_index(pieces: &[Piece], solid: usize) -> usize
+/// The index of the first piece that offers 8 bytes, none of which stands before `solid`, or else
+/// the number of pieces.
+pub(crate) fn open_index(pieces: &[Piece], solid: usize) -> usize
     requires within { solid ≤ length pieces.now }
     requires shut { IsShut solid pieces.now }
     ensures within { result ≤ length pieces.now }
     ensures shut { IsShut result pieces.now }
-    ensures free { (d : Piece) → result < length pieces.now → IsTrue (is_free (slice_index_or pieces.now result d)) }
+    ensures open { (d : Piece) → result < length pieces.now → IsTrue (is_open (slice_index_or pieces.now result d)) }
 {
     let mut at = solid;
     while at < pieces.len() {
-        if pieces[at].is_free() {
+        if pieces[at].is_open() {
             return at;
         }
         at += 1;
@@ -68,8 +69,15 @@ fn first_roomy(pieces: &[Piece], from: u32) -> Option<usize>
     pieces.iter().position(|p| p.is_roomy_from(from))
 }
 
-/// The first piece in which so many bytes fit. No piece before `solid` is Free.
+fn first_pending(pieces: &[Piece]) -> Option<usize>
+    ensures { result ≡ position is_pending pieces.now }
+{
+    pieces.iter().position(|p| p.is_pending())
+}
+
+/// The first piece in which so many bytes fit. No piece before `solid` offers 8.
 pub(crate) fn room_index(pieces: &[Piece], solid: usize, need: u32) -> Option<usize>
+    requires some { 8 ≤ need }
     requires within { solid ≤ length pieces.now }
     requires shut { IsShut solid pieces.now }
     ensures { result ≡ position (has_room need) pieces.now }
@@ -81,14 +89,14 @@ pub(crate) fn room_index(pieces: &[Piece], solid: usize, need: u32) -> Option<us
 }
 
 /// The first piece in which so many bytes fit and end at or below a place. No piece before `solid`
-/// is Free.
+/// offers 8.
 pub(crate) fn room_below_index(
     pieces: &[Piece],
     solid: usize,
     need: u32,
     before: u32,
 ) -> Option<usize>
-    requires some { 0 < need }
+    requires some { 8 ≤ need }
     requires within { solid ≤ length pieces.now }
     requires shut { IsShut solid pieces.now }
     requires order { IsInOrder pieces.now }
@@ -101,17 +109,24 @@ pub(crate) fn room_below_index(
     Some(solid + at)
 }
 
-/// The first free piece of at least 8 bytes that starts at or after a place. No piece before `solid`
-/// is Free.
-pub(crate) fn roomy_index(pieces: &[Piece], solid: usize, from: u32) -> Option<usize>
-    requires within { solid ≤ length pieces.now }
-    requires shut { IsShut solid pieces.now }
-    requires order { IsInOrder pieces.now }
+/// The first free piece of at least 8 bytes that starts at or after a place.
+pub(crate) fn roomy_index(pieces: &[Piece], from: u32) -> Option<usize>
+    requires { IsInOrder pieces.now }
     ensures { result ≡ position (is_roomy_from from) pieces.now }
 {
-    let start = start_index(pieces, from).max(solid);
+    let start = start_index(pieces, from);
     let Some(at) = first_roomy(&pieces[start..], from) else {
         return None;
     };
     Some(start + at)
+}
+
+/// How many pieces stand before the first Pending one.
+pub(crate) fn pending_index(pieces: &[Piece]) -> usize
+    ensures { result ≡ position_or_len is_pending pieces.now }
+{
+    let Some(at) = first_pending(pieces) else {
+        return pieces.len();
+    };
+    at
 }

@@ -22,6 +22,7 @@ ghost use Rattle.cckd_space.specs.Pieces.{
   used_len,
   roomy_len,
 };
+ghost use Rattle.cckd_space.specs.Inside.{is_open, is_pending};
 
 use cckd_base::{Extent, Owner};
 
@@ -201,6 +202,25 @@ impl Piece {
         ensures { result ≡ has_room_below need before self.now }
     {
         self.has_room(need) && align(self.pos) + need as u64 <= before as u64
+    }
+
+    /// Whether it is free and offers the least that may be asked for.
+    pub(crate) fn is_open(&self) -> bool
+        ensures { result ≡ is_open self.now }
+    {
+        self.has_room(8)
+    }
+
+    pub(crate) fn is_pending(&self) -> bool
+        ensures { result ≡ is_pending self.now }
+    {
+        match self.kind {
+            Kind::Pending => true,
+            Kind::Used => false,
+            Kind::Free => false,
+            Kind::Reserved => false,
+            Kind::Leaving => false,
+        }
     }
 
     /// Whether it is one piece with the next: both are Free.

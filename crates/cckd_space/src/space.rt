@@ -6,7 +6,7 @@ use crate::editing::{
     cut_end, free_at, free_end, leave_piece, merge, release_pieces, reserve_below, reserve_end,
     reserve_found, retire_pieces, settle_piece,
 };
-use crate::finding::{free_index, reserved_index, room_index, roomy_index};
+use crate::finding::{open_index, pending_index, reserved_index, room_index, roomy_index};
 use crate::making::list_pieces;
 use crate::piece::{Piece, Totals, align};
 use crate::totals::{add_up, largest_offer, roomy_first};
@@ -23,10 +23,13 @@ pub struct Space {
     limit: u32,
     // How many pieces there may be.
     slots: usize,
-    // So many first pieces are none of them Free.
+    // None of so many first pieces offers 8 bytes.
     solid: usize,
     // No piece offers more bytes.
     most: u64,
+    // Where these are false, there is no Leaving piece, and no Pending one.
+    leaving: bool,
+    pending: bool,
 }
 
 impl Model for Space {
@@ -39,7 +42,7 @@ impl Model for Space {
 
     ghost view = { λ s. record { pieces = s.pieces.items; size = s.size; limit = s.limit; spare = s.slots - length s.pieces.items } };
 
-    ghost invariant = { λ s. IsKept s.pieces.items s.size s.slots (vec_capacity s.pieces) s.solid s.most };
+    ghost invariant = { λ s. IsKept s.pieces.items s.size s.slots (vec_capacity s.pieces) s.solid s.most s.leaving s.pending };
 }
 
 impl Space {
@@ -67,6 +70,8 @@ impl Space {
             slots,
             solid: 0,
             most: size as u64,
+            leaving: false,
+            pending: false,
         })
     }
 
@@ -109,14 +114,14 @@ impl Space {
 
     /// The index of the first piece in which so many bytes fit.
     fn find_room(&mut self, need: u32) -> Option<usize>
-        requires { 0 < need }
+        requires { 8 ≤ need }
         ensures found { result ≡ position (has_room need) self.old.pieces }
         ensures same { self.new ≡ self.old }
     {
         if self.most < need as u64 {
             return None;
         }
-        self.solid = free_index(self.pieces.as_slice(), self.solid);
+        self.solid = open_index(self.pieces.as_slice(), self.solid);
         let found = room_index(self.pieces.as_slice(), self.solid, need);
         if found.is_none() {
             self.most = need as u64 - 1;
@@ -126,7 +131,7 @@ impl Space {
 
     fn place_found(&mut self, at: usize, need: u32) -> u32
         requires found { position (has_room need) self.old.pieces ≡ Some at }
-        requires need { 0 < need }
+        requires need { 8 ≤ need }
         requires spare { 2 ≤ self.old.spare }
         ensures placed { Some result ≡ first_fit need self.old.pieces }
         ensures reserved { Becomes self.old self.new (replaced (has_room need) (reserved_in need) self.old.pieces) self.old.size }
@@ -152,11 +157,13 @@ impl Space {
         let end = free_end(self.pieces.as_slice(), self.size);
         let place = align(end);
         if place + need as u64 <= self.limit as u64 {
+            self.solid = self.solid.min(self.pieces.len().saturating_sub(1));
             reserve_end(&mut self.pieces, end, self.size, need);
             self.size = place as u32 + need;
             return Ok(place as u32);
         }
-        let largest = largest_offer(self.pieces.as_slice()) as u32;
+        self.most = largest_offer(self.pieces.as_slice());
+        let largest = self.most as u32;
         let room = (self.limit as u64).saturating_sub(place) as u32;
         Err(Full {
             need,
@@ -177,7 +184,7 @@ impl Space {
         if self.most < need as u64 {
             return None;
         }
-        self.solid = free_index(self.pieces.as_slice(), self.solid);
+        self.solid = open_index(self.pieces.as_slice(), self.solid);
         reserve_below(&mut self.pieces, self.solid, need, before)
     }
 
@@ -209,6 +216,7 @@ impl Space {
         ensures spent { self.new.spare ≡ self.old.spare }
     {
         leave_piece(&mut self.pieces, pos);
+        self.leaving = true;
     }
 
     /// Turns every Leaving piece into a Pending one.
@@ -216,7 +224,12 @@ impl Space {
         ensures becomes { Becomes self.old self.new (map retired self.old.pieces) self.old.size }
         ensures spent { self.new.spare ≡ self.old.spare }
     {
+        if !self.leaving {
+            return;
+        }
         retire_pieces(&mut self.pieces);
+        self.leaving = false;
+        self.pending = true;
     }
 
     /// Frees the Reserved piece at `pos`.
@@ -227,7 +240,7 @@ impl Space {
     {
         let at = reserved_index(self.pieces.as_slice(), pos);
         let offered = free_at(&mut self.pieces, at);
-        self.solid = self.solid.min(at);
+        self.solid = self.solid.min(at.saturating_sub(1));
         self.most = self.most.max(offered);
     }
 
@@ -236,10 +249,15 @@ impl Space {
         ensures becomes { Becomes self.old self.new (merged (map released self.old.pieces)) self.old.size }
         ensures spent { self.old.spare ≤ self.new.spare }
     {
+        if !self.pending {
+            return;
+        }
+        let first = pending_index(self.pieces.as_slice());
         release_pieces(&mut self.pieces);
         merge(&mut self.pieces);
-        self.solid = 0;
-        self.most = self.size as u64;
+        self.solid = self.solid.min(first.saturating_sub(1));
+        self.most = largest_offer(self.pieces.as_slice());
+        self.pending = false;
     }
 
     /// Drops a Free piece at the end, and answers the size of the file then.
@@ -249,6 +267,7 @@ impl Space {
         ensures spent { self.old.spare ≤ self.new.spare }
     {
         let end = free_end(self.pieces.as_slice(), self.size);
+        self.solid = self.solid.min(self.pieces.len().saturating_sub(1));
         cut_end(&mut self.pieces, 0, self.size);
         self.size = end;
         end
@@ -260,6 +279,7 @@ impl Space {
         ensures spent { self.old.spare ≤ self.new.spare }
     {
         let end = free_end(self.pieces.as_slice(), self.size);
+        self.solid = self.solid.min(self.pieces.len().saturating_sub(1));
         cut_end(&mut self.pieces, len, self.size);
         self.size = end.max(len.min(self.size));
     }
@@ -275,7 +295,7 @@ impl Space {
         Totals {
             size,
             used: sums.used,
-            free: roomy_first(pieces, self.solid),
+            free: roomy_first(pieces),
             free_total: sums.total,
             free_largest: sums.largest,
             free_number: sums.number,
@@ -288,7 +308,7 @@ impl Space {
     pub fn next_free(&self, from: u32) -> Option<(u32, u32)>
         ensures { result ≡ free_from from self.now.pieces }
     {
-        let Some(at) = roomy_index(self.pieces.as_slice(), self.solid, from) else {
+        let Some(at) = roomy_index(self.pieces.as_slice(), from) else {
             return None;
         };
         let piece = self.pieces[at];

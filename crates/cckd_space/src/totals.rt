@@ -1,8 +1,8 @@
 //! The numbers of a list of pieces.
-ghost use Rattle.std.specs.Prelude.{◌≡◌, ◌+◌, ◌<◌, ◌≤◌, ◌^◌, length};
+ghost use Rattle.std.specs.Prelude.{◌≡◌, ◌+◌, ◌<◌, ◌^◌};
 ghost use Rattle.std.specs.Option.{option_map, unwrap_or};
 ghost use Rattle.cckd_space.specs.Pieces.{largest, greatest, offer, summed, counted, used_len, roomy_len, is_roomy, first};
-ghost use Rattle.cckd_space.specs.Inside.{IsInOrder, IsShut};
+ghost use Rattle.cckd_space.specs.Inside.{IsInOrder};
 
 use crate::finding::roomy_index;
 use crate::piece::Piece;
@@ -57,14 +57,12 @@ pub(crate) fn add_up(pieces: &[Piece]) -> Sums
     }
 }
 
-/// Where the first free piece of at least 8 bytes stands, or 0. No piece before `solid` is Free.
-pub(crate) fn roomy_first(pieces: &[Piece], solid: usize) -> u32
-    requires within { solid ≤ length pieces.now }
-    requires shut { IsShut solid pieces.now }
-    requires order { IsInOrder pieces.now }
+/// Where the first free piece of at least 8 bytes stands, or 0.
+pub(crate) fn roomy_first(pieces: &[Piece]) -> u32
+    requires { IsInOrder pieces.now }
     ensures { result ≡ unwrap_or (option_map (λ p. p.pos) (first is_roomy pieces.now)) 0 }
 {
-    let Some(at) = roomy_index(pieces, solid, 0) else {
+    let Some(at) = roomy_index(pieces, 0) else {
         return 0;
     };
     pieces[at].pos

@@ -7,10 +7,10 @@ pub returns : goal.returns
 returns c =
     let test = has_room c.args.need in
     let xs = c.args.pieces.now in
-    sym (part_some test xs c.args.solid (length xs - c.args.solid) c.in-Some.at (where_shut test (room_shut c.args.need) xs c.args.solid c.requires.shut) (sym c.first_room.ensures ∙ c.in-Some.is))
+    sym (part_some test xs c.args.solid (length xs - c.args.solid) c.in-Some.at (where_shut test (room_shut c.args.need c.requires.some) xs c.args.solid c.requires.shut) (sym c.first_room.ensures ∙ c.in-Some.is))
 
 pub returns-in_default : goal.returns-in_default
 returns-in_default c =
     let test = has_room c.args.need in
     let xs = c.args.pieces.now in
-    sym (part_none test xs c.args.solid (length xs - c.args.solid) (where_shut test (room_shut c.args.need) xs c.args.solid c.requires.shut) (sym c.first_room.ensures ∙ c.in_default.is))
+    sym (part_none test xs c.args.solid (length xs - c.args.solid) (where_shut test (room_shut c.args.need c.requires.some) xs c.args.solid c.requires.shut) (sym c.first_room.ensures ∙ c.in_default.is))

@@ -20,12 +20,13 @@ pub invariant_of-self : goal.invariant_of-self
 invariant_of-self c =
     let same = c.as_slice-2.ensures.value in
     let none = none_is c.room_index-found.result (c.is_none.ensures ∙ ap not c.if-is_none.true) in
-    let small = none_large c.args.need c.requires c.self.inside.pieces.items (subst (λ (l : List Piece). position (has_room c.args.need) l ≡ None) same (sym c.room_index-found.ensures ∙ none)) in
+    let small = none_large c.args.need (omega (arith, c.requires)) c.self.inside.pieces.items (subst (λ (l : List Piece). position (has_room c.args.need) l ≡ None) same (sym c.room_index-found.ensures ∙ none)) in
     record {
       laid = c.self.invariant.laid;
       fewer = c.self.invariant.fewer;
       room = c.self.invariant.room;
-      within = omega (arith, c.free_index-self-inside.ensures.within, ap length c.as_slice.ensures.value);
-      shut = subst (IsShut c.free_index-self-inside.result) c.as_slice.ensures.value c.free_index-self-inside.ensures.shut;
+      within = omega (arith, c.open_index-self-inside.ensures.within, ap length c.as_slice.ensures.value);
+      shut = subst (IsShut c.open_index-self-inside.result) c.as_slice.ensures.value c.open_index-self-inside.ensures.shut;
       offers = omega (arith, small);
+      marked = c.self.invariant.marked;
     }

@@ -1,6 +1,8 @@
-use Rattle.std.proofs.Common.{List, sym, subst, arith}
+use Rattle.std.proofs.Common.{List, false, sym, subst, arith}
 use Rattle.cckd_space.specs.declared.piece.Piece.{Piece}
 use Rattle.cckd_space.specs.Pieces.{IsLaid}
+use Rattle.cckd_space.specs.Inside.{IsMarked}
+use Rattle.cckd_space.proofs.MarkLemmas.{marked_used}
 use Rattle.cckd_space.proofs.LaidLemmas.{laid_pieces_of}
 use Rattle.cckd_space.proofs.NumberLemmas.{largest_fits}
 use Rattle.cckd_space.proofs.space.Space.from_used.Goals as goal
@@ -16,4 +18,5 @@ invariant_of-result c =
       within = omega arith;
       shut = tt;
       offers = largest_fits 0 c.in_ok-pieces.pieces.items c.args.size laid;
+      marked = subst (λ (l : List Piece). IsMarked l false false) (sym c.in_ok-pieces.ensures.items) (marked_used c.args.used.now c.args.size);
     }

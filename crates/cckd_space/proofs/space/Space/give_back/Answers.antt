@@ -1,10 +1,11 @@
-use Rattle.std.proofs.Common.{◌≡◌, ℕ, ◌+◌, Some, position, min, List, ◌∷◌, ◌++◌, [], length, take, drop, get_or, sym, ◌∙◌, ap, subst, arith}
+use Rattle.std.proofs.Common.{◌≡◌, ℕ, ◌+◌, Some, position, List, ◌∷◌, ◌++◌, [], length, take, drop, get_or, refl, sym, ◌∙◌, ap, subst, arith}
 use Rattle.cckd_base.specs.declared.space.Owner.TheVariants.{Nobody}
 use Rattle.cckd_space.specs.declared.piece.Kind.TheVariants.{Used}
 use Rattle.cckd_space.specs.declared.piece.Piece.{Piece}
 use Rattle.cckd_space.specs.Pieces.{IsLaid, freed, is_reserved_at, merged, replaced}
 use Rattle.cckd_space.specs.Plan.{Plan}
-use Rattle.cckd_space.specs.Inside.{IsInOrder, IsShut}
+use Rattle.cckd_space.specs.Inside.{IsInOrder, IsMarked, IsShut}
+use Rattle.cckd_space.proofs.MarkLemmas.{marked_merged, marked_swapped}
 use Rattle.cckd_space.proofs.LaidLemmas.{laid_freed, laid_row, row_size}
 use Rattle.cckd_space.proofs.FirstLemmas.{is_first}
 use Rattle.cckd_space.proofs.MergeLemmas.{freed_items, laid_apart}
@@ -48,9 +49,10 @@ invariant_of-self c =
     let new = became c.args.pos at old c.as_slice.result.now c.free_at-offered.new.pieces.items c.as_slice.ensures.value c.reserved_index-at.ensures c.free_at-offered.ensures.items in
     let d : Piece = record { pos = 0; len = 0; size = 0; kind = Used; owner = Nobody } in
     let f = is_first (is_reserved_at c.args.pos) old at d (subst (λ (l : List Piece). position (is_reserved_at c.args.pos) l ≡ Some at) c.as_slice.ensures.value c.reserved_index-at.ensures) in
-    let kept = shut_freed c.self.inside.solid at old (freed (get_or old at d) ∷ drop (at + 1) old) (omega (arith, f.within)) c.self.invariant.shut in
     let shut : IsShut c.min-self-inside.result c.free_at-offered.new.pieces.items =
-    subst (λ (n : ℕ). IsShut n c.free_at-offered.new.pieces.items) (sym c.min-self-inside.ensures) (subst (IsShut (min c.self.inside.solid at)) (sym (c.free_at-offered.ensures.items d)) kept) in
+    shut_freed c.self.inside.solid at c.min-self-inside.result old c.free_at-offered.new.pieces.items d (laid_apart 0 old c.self.inside.size c.self.invariant.laid) f.within (c.free_at-offered.ensures.items d) (omega arith) c.self.invariant.shut in
+    let test = is_reserved_at c.args.pos in
+    let marked = marked_merged (replaced test (λ p. freed p ∷ []) old) c.self.inside.leaving c.self.inside.pending (marked_swapped test freed (λ p. refl) (λ p. refl) old c.self.inside.leaving c.self.inside.pending c.self.invariant.marked) in
     record {
       laid = subst (λ (l : List Piece). IsLaid 0 l c.self.inside.size) (sym new) (laid_freed (is_reserved_at c.args.pos) old c.self.inside.size c.self.invariant.laid);
       fewer = omega arith;
@@ -58,4 +60,5 @@ invariant_of-self c =
       within = shut_within c.min-self-inside.result c.free_at-offered.new.pieces.items shut;
       shut = shut;
       offers = omega (arith, c.free_at-offered.ensures.offers, c.max-self-inside.ensures, c.self.invariant.offers);
+      marked = subst (λ (l : List Piece). IsMarked l c.self.inside.leaving c.self.inside.pending) (sym new) marked;
     }

@@ -1,7 +1,8 @@
-use Rattle.std.proofs.Common.{List, refl, sym, ap, subst, arith}
+use Rattle.std.proofs.Common.{List, true, refl, sym, ap, subst, arith}
 use Rattle.cckd_space.specs.declared.piece.Piece.{Piece}
 use Rattle.cckd_space.specs.Pieces.{IsLaid, is_used_at, largest, left}
-use Rattle.cckd_space.specs.Inside.{IsShut}
+use Rattle.cckd_space.specs.Inside.{IsMarked, IsShut}
+use Rattle.cckd_space.proofs.MarkLemmas.{marked_left}
 use Rattle.cckd_space.proofs.LaidLemmas.{laid_left}
 use Rattle.cckd_space.proofs.SearchLemmas.{laid_order, shut_within}
 use Rattle.cckd_space.proofs.KeptLemmas.{shut_swapped, largest_swapped}
@@ -24,4 +25,5 @@ invariant_of-self c =
       within = shut_within c.self.inside.solid c.leave_piece.new.pieces.items shut;
       shut = shut;
       offers = omega (arith, less, ap largest c.leave_piece.ensures.items, c.self.invariant.offers);
+      marked = subst (λ (l : List Piece). IsMarked l true c.self.inside.pending) (sym c.leave_piece.ensures.items) (marked_left test left (λ p. refl) old c.self.inside.leaving c.self.inside.pending c.self.invariant.marked);
     }

@@ -5,8 +5,8 @@ use Rattle.cckd_space.proofs.NumberLemmas.{found_free, no_free}
 use Rattle.cckd_space.proofs.SearchLemmas.{laid_order}
 use Rattle.cckd_space.proofs.space.Space.next_free.Goals as goal
 
-pub roomy_index-requires-clause-order : goal.roomy_index-requires-clause-order
-roomy_index-requires-clause-order c = subst IsInOrder (sym c.as_slice.ensures.value) (laid_order c.self.inside.pieces.items c.self.inside.size c.self.invariant.laid)
+pub roomy_index-requires : goal.roomy_index-requires
+roomy_index-requires c = subst IsInOrder (sym c.as_slice.ensures.value) (laid_order c.self.inside.pieces.items c.self.inside.size c.self.invariant.laid)
 
 pub returns-in_default : goal.returns-in_default
 returns-in_default c =

@@ -2,9 +2,10 @@ use Rattle.std.proofs.Common.{◌≡◌, ℕ, ◌^◌, ◌<◌, List, length, No
 use Rattle.cckd_space.specs.declared.piece.Piece.{Piece}
 use Rattle.cckd_space.specs.Pieces.{IsLaid, aligned_up, has_room_below, largest, reserved_in}
 use Rattle.cckd_space.specs.Plan.{Plan}
-use Rattle.cckd_space.specs.Inside.{IsShut}
-use Rattle.cckd_space.proofs.LaidLemmas.{laid_below, laid_reserved_in, below_room, room_facts}
-use Rattle.cckd_space.proofs.SearchLemmas.{laid_order, shut_within}
+use Rattle.cckd_space.specs.Inside.{IsMarked, IsShut}
+use Rattle.cckd_space.proofs.LaidLemmas.{laid_below, laid_reserved_in, below_room}
+use Rattle.cckd_space.proofs.SearchLemmas.{laid_order, shut_within, room_open}
+use Rattle.cckd_space.proofs.MarkLemmas.{marked_filled}
 use Rattle.cckd_space.proofs.FirstLemmas.{mapped_none, none_passes, replaced_none}
 use Rattle.cckd_space.proofs.NumberLemmas.{small_none}
 use Rattle.cckd_space.proofs.KeptLemmas.{shut_filled, largest_reserved}
@@ -35,11 +36,11 @@ pub invariant_of-self : goal.invariant_of-self
 invariant_of-self c =
     let old = c.self.inside.pieces.items in
     let test = has_room_below c.args.need c.args.before in
-    let solid = c.free_index-self-inside.result in
-    let before : IsShut solid old = subst (IsShut solid) c.as_slice.ensures.value c.free_index-self-inside.ensures.shut in
+    let solid = c.open_index-self-inside.result in
+    let before : IsShut solid old = subst (IsShut solid) c.as_slice.ensures.value c.open_index-self-inside.ensures.shut in
     let shut : IsShut solid c.reserve_below.new.pieces.items =
     subst (IsShut solid) (sym c.reserve_below.ensures.items)
-    (shut_filled test (reserved_in c.args.need) (λ p e. (room_facts c.args.need p (below_room c.args.need c.args.before p e)).free) solid old before) in
+    (shut_filled test (reserved_in c.args.need) (λ p e. room_open c.args.need p c.requires.need.some (below_room c.args.need c.args.before p e)) solid old before) in
     let less = largest_reserved test c.args.need (λ p e. below_room c.args.need c.args.before p e) old in
     record {
       laid = subst (λ (l : List Piece). IsLaid 0 l c.self.inside.size) (sym c.reserve_below.ensures.items)
@@ -49,6 +50,7 @@ invariant_of-self c =
       within = shut_within solid c.reserve_below.new.pieces.items shut;
       shut = shut;
       offers = omega (arith, less, ap largest c.reserve_below.ensures.items, c.self.invariant.offers);
+      marked = subst (λ (l : List Piece). IsMarked l c.self.inside.leaving c.self.inside.pending) (sym c.reserve_below.ensures.items) (marked_filled test c.args.need old c.self.inside.leaving c.self.inside.pending c.self.invariant.marked);
     }
 
 pub returns-clause-there : goal.returns-clause-there

@@ -2,7 +2,8 @@ use Rattle.std.proofs.Common.{◌≡◌, ◌≤◌, List, IfSome, Some, refl, sy
 use Rattle.cckd_space.specs.declared.piece.Piece.{Piece}
 use Rattle.cckd_space.specs.Pieces.{IsLaid, first, is_reserved_at, is_used_at, largest, settled}
 use Rattle.cckd_space.specs.Plan.{Plan}
-use Rattle.cckd_space.specs.Inside.{IsShut}
+use Rattle.cckd_space.specs.Inside.{IsMarked, IsShut}
+use Rattle.cckd_space.proofs.MarkLemmas.{marked_swapped}
 use Rattle.cckd_space.proofs.LaidLemmas.{laid_settled}
 use Rattle.cckd_space.proofs.SearchLemmas.{laid_order, shut_within}
 use Rattle.cckd_space.proofs.KeptLemmas.{shut_swapped, largest_swapped}
@@ -29,6 +30,7 @@ invariant_of-self c =
       within = shut_within c.self.inside.solid c.settle_piece.new.pieces.items shut;
       shut = shut;
       offers = omega (arith, less, ap largest c.settle_piece.ensures.items, c.self.invariant.offers);
+      marked = subst (λ (l : List Piece). IsMarked l c.self.inside.leaving c.self.inside.pending) (sym c.settle_piece.ensures.items) (marked_swapped test (settled c.args.len c.args.owner) (λ p. refl) (λ p. refl) old c.self.inside.leaving c.self.inside.pending c.self.invariant.marked);
     }
 
 pub returns-clause-there : goal.returns-clause-there

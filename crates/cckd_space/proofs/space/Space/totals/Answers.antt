@@ -29,8 +29,8 @@ add_up-sums-requires-clause-number c =
     let n = count_fits c.as_slice-pieces.result.now in
     omega (arith, r, n)
 
-pub roomy_first-requires-clause-order : goal.roomy_first-requires-clause-order
-roomy_first-requires-clause-order c = subst IsInOrder (sym c.as_slice-pieces.ensures.value) (laid_order c.self.inside.pieces.items c.self.inside.size c.self.invariant.laid)
+pub roomy_first-requires : goal.roomy_first-requires
+roomy_first-requires c = subst IsInOrder (sym c.as_slice-pieces.ensures.value) (laid_order c.self.inside.pieces.items c.self.inside.size c.self.invariant.laid)
 
 pub overflow_sub-result : goal.overflow_sub-result
 overflow_sub-result c =

@@ -1,10 +1,11 @@
 use Rattle.std.proofs.Common.{◌≡◌, ℕ, min, max, List, sym, ap, subst, arith}
 use Rattle.cckd_space.specs.declared.piece.Piece.{Piece}
 use Rattle.cckd_space.specs.Pieces.{IsLaid, used_end, cut, free_run, largest}
-use Rattle.cckd_space.specs.Inside.{EndsAt, IsShut}
+use Rattle.cckd_space.specs.Inside.{EndsAt, IsMarked, IsShut}
+use Rattle.cckd_space.proofs.MarkLemmas.{marked_cut}
 use Rattle.cckd_space.proofs.LaidLemmas.{laid_ends, laid_cut}
 use Rattle.cckd_space.proofs.SearchLemmas.{shut_within}
-use Rattle.cckd_space.proofs.KeptLemmas.{shut_trimmed, largest_cut}
+use Rattle.cckd_space.proofs.KeptLemmas.{shut_end, largest_cut}
 use Rattle.cckd_space.proofs.space.Space.trim.Goals as goal
 
 pub free_end-end-requires : goal.free_end-end-requires
@@ -20,9 +21,10 @@ invariant_of-self c =
     let end : max (used_end c.self.inside.pieces.items) (min 0 c.self.inside.size) ≡ c.free_end-end.result =
     let e = ap used_end c.as_slice.ensures.value in omega (arith, e) in
     let old = c.self.inside.pieces.items in
-    let shut : IsShut c.self.inside.solid c.cut_end.new.pieces.items =
-    subst (IsShut c.self.inside.solid) (sym c.cut_end.ensures.items)
-    (shut_trimmed c.self.inside.solid old (free_run (used_end old) (min 0 c.self.inside.size)) c.self.invariant.shut) in
+    let solid = c.min-self-inside.result in
+    let shut : IsShut solid c.cut_end.new.pieces.items =
+    subst (IsShut solid) (sym c.cut_end.ensures.items)
+    (shut_end c.self.inside.solid solid old (free_run (used_end old) (min 0 c.self.inside.size)) (omega arith) c.self.invariant.shut) in
     let less = largest_cut 0 old c.self.inside.size c.self.invariant.laid in
     record {
       laid = subst (λ (l : List Piece). IsLaid 0 l c.free_end-end.result) (sym c.cut_end.ensures.items)
@@ -30,7 +32,8 @@ invariant_of-self c =
           (laid_cut 0 c.self.inside.pieces.items c.self.inside.size c.self.invariant.laid));
       fewer = omega arith;
       room = omega arith;
-      within = shut_within c.self.inside.solid c.cut_end.new.pieces.items shut;
+      within = shut_within solid c.cut_end.new.pieces.items shut;
       shut = shut;
       offers = omega (arith, less, ap largest c.cut_end.ensures.items, c.self.invariant.offers);
+      marked = subst (λ (l : List Piece). IsMarked l c.self.inside.leaving c.self.inside.pending) (sym c.cut_end.ensures.items) (marked_cut old (used_end old) (min 0 c.self.inside.size) c.self.inside.leaving c.self.inside.pending c.self.invariant.marked);
     }
