@@ -1,13 +1,13 @@
 -- Which pieces a caller finds after a call: the one that the call made, and each that it doesn't name.
-use Rattle.std.proofs.Common.{◌≡◌, ◌⊎◌, ℕ, zero, suc, ◌+◌, ◌<◌, ◌≤◌, Bool, true, false, ◌&&◌, nat_le, nat_lt, List, [], ◌∷◌, ◌++◌, length, get_or, map, Option, Some, None, IfSome, refl, sym, ◌∙◌, ap, subst, arith, inl, inr, cond}
+use Rattle.std.proofs.Common.{◌≡◌, ◌⊎◌, ℕ, zero, suc, ◌+◌, ◌<◌, ◌≤◌, Bool, true, false, ◌&&◌, ◌||◌, nat_le, nat_lt, List, [], ◌∷◌, ◌++◌, length, get_or, map, Option, Some, None, IfSome, refl, sym, ◌∙◌, ap, subst, arith, inl, inr, cond}
 use Rattle.std.specs.Option.{option_map}
 use Rattle.std.proofs.lemmas.Bool.{cond_both, and_parts, eq-eqb, false_from_ne_true, le-leb, lt-leb, lt-ltb, le-ltb, cases_lt}
 use Rattle.cckd_base.specs.declared.space.Owner.{Owner}
 use Rattle.cckd_space.specs.declared.piece.Kind.{Kind}
 use Rattle.cckd_space.specs.declared.piece.Kind.TheVariants.{Used, Free, Reserved, Leaving, Pending}
 use Rattle.cckd_space.specs.declared.piece.Piece.{Piece}
-use Rattle.cckd_space.specs.Pieces.{is_free, is_used_at, is_reserved_at, first, replaced, free_run, reserved_piece, reserved_in, settled, joined, merged, has_room, aligned_up, piece_end, trimmed, used_end, end_place, appended, counted, IsLaid, free_piece, is_used, free_kind, used_kind}
-use Rattle.cckd_space.specs.Plan.{first_fit, place_of, reserved_at, with_reserved, has_byte}
+use Rattle.cckd_space.specs.Pieces.{is_free, is_used_at, is_reserved_at, first, replaced, free_run, reserved_piece, reserved_in, settled, joined, merged, has_room, aligned_up, piece_end, trimmed, used_end, end_place, appended, counted, AreUsedOrFree, IsLaid, free_piece, is_used, free_kind, used_kind}
+use Rattle.cckd_space.specs.Plan.{first_fit, place_of, reserved_at, with_reserved, has_byte, has_used_byte, has_free_byte}
 use Rattle.cckd_space.proofs.LaidLemmas.{laid_reserved_in, laid_appended, laid_settled, laid_le}
 use Rattle.cckd_space.proofs.SearchLemmas.{reserved_there, used_there}
 
@@ -37,7 +37,7 @@ first_has test (q ∷ qs) p e = by (test q) refl (first_has test qs p)
     by true f more = let s : q ≡ p = (let g : Some q ≡ Some p = rw f at e in cc) in (inl s, ap test (sym s) ∙ f)
     by false f more = let m = more (rw f at e) in (inr m.0, m.1)
 
-laid_has : (at : ℕ) (ps : List Piece) (end : ℕ) (p : Piece) → IsLaid at ps end → Has p ps → at ≤ p.pos
+pub laid_has : (at : ℕ) (ps : List Piece) (end : ℕ) (p : Piece) → IsLaid at ps end → Has p ps → at ≤ p.pos
 laid_has at [] end p l h = absurd h
 laid_has at (q ∷ qs) end p l h = elim h [
   | inl e ↦ let s = ap (λ (x : Piece). x.pos) e in omega (arith, s, l.0.place)
@@ -273,7 +273,23 @@ one_kind false true false e = omega arith
 one_kind false false true e = omega arith
 one_kind false false false e = omega arith
 
-pub kinds_counted : (ps : List Piece) (byte : ℕ) → counted (λ p. is_used p && has_byte byte p) ps + counted (λ p. is_free p && has_byte byte p) ps ≤ counted (has_byte byte) ps
+both_kinds : (u f h : Bool) → (u && f) ≡ false → (u || f) ≡ true → cond (u && h) 1 0 + cond (f && h) 1 0 ≡ cond h 1 0
+both_kinds true true h e g = absurd cc
+both_kinds true false true e g = omega arith
+both_kinds true false false e g = omega arith
+both_kinds false true true e g = omega arith
+both_kinds false true false e g = omega arith
+both_kinds false false h e g = absurd cc
+
+-- where every piece is Used or Free, each byte of a piece is exactly one of both
+pub kinds_shared : (ps : List Piece) (byte : ℕ) → AreUsedOrFree ps → counted (has_used_byte byte) ps + counted (has_free_byte byte) ps ≡ counted (has_byte byte) ps
+kinds_shared [] byte h = omega arith
+kinds_shared (p ∷ ps) byte h =
+    let r = kinds_shared ps byte h.1 in
+    let o = both_kinds (is_used p) (is_free p) (has_byte byte p) (kinds_apart p.kind) h.0 in
+    omega (arith, r, o)
+
+pub kinds_counted : (ps : List Piece) (byte : ℕ) → counted (has_used_byte byte) ps + counted (has_free_byte byte) ps ≤ counted (has_byte byte) ps
 kinds_counted [] byte = omega arith
 kinds_counted (p ∷ ps) byte =
     let r = kinds_counted ps byte in

@@ -1,14 +1,16 @@
 -- What each call makes of the used pieces alone, for callers that keep one for each table and track.
-use Rattle.std.proofs.Common.{◌≡◌, ℕ, Bool, true, false, ◌&&◌, ◌==◌, ◌+◌, ◌-◌, nat_lt, min, cond, List, [], ◌∷◌, ◌++◌, map, Option, Some, None, refl, sym, ◌∙◌, ap}
+use Rattle.std.proofs.Common.{◌≡◌, ℕ, Bool, true, false, ◌&&◌, ◌==◌, ◌+◌, ◌-◌, ◌<◌, nat_lt, min, cond, if◌then◌else◌, List, [], ◌∷◌, ◌++◌, map, Option, Some, None, refl, sym, ◌∙◌, ap, subst, arith}
 use Rattle.std.specs.List.{filter}
-use Rattle.std.proofs.lemmas.Bool.{and_parts, cond_both}
+use Rattle.std.proofs.lemmas.Bool.{and_parts, cond_both, le-ltb, lt-ltb}
 use Rattle.std.proofs.lemmas.List.{append-nil}
 use Rattle.std.proofs.lemmas.List.Elements.{filter-append}
+use Rattle.cckd_base.specs.declared.space.Owner.{Owner}
 use Rattle.cckd_space.specs.declared.piece.Kind.{Kind}
 use Rattle.cckd_space.specs.declared.piece.Kind.TheVariants.{Used, Free, Reserved, Leaving, Pending}
 use Rattle.cckd_space.specs.declared.piece.Piece.{Piece}
-use Rattle.cckd_space.specs.Pieces.{is_free, is_used, used_kind, free_kind, reserved_kind, is_reserved_at, is_used_at, replaced, free_piece, free_run, reserved_piece, reserved_in, freed, left, retired, retired_as, released, released_as, joined, merged, has_room, has_room_below, aligned_up, piece_end, trimmed, used_end, end_place, cut}
+use Rattle.cckd_space.specs.Pieces.{is_free, is_used, used_kind, free_kind, reserved_kind, is_reserved_at, is_used_at, first, replaced, settled, IsLaid, free_piece, free_run, reserved_piece, reserved_in, freed, left, retired, retired_as, released, released_as, joined, merged, has_room, has_room_below, aligned_up, piece_end, trimmed, used_end, end_place, cut}
 use Rattle.cckd_space.specs.Plan.{first_fit, reserved_at, with_reserved}
+use Rattle.cckd_space.proofs.CallerLemmas.{first_has, laid_has}
 use Rattle.cckd_space.proofs.LaidLemmas.{below_room, room_facts}
 
 -- the used pieces
@@ -143,3 +145,48 @@ used_left pos (p ∷ ps) = by (is_used p) refl (p.pos == pos) refl (used_left po
     by true e true f more = rw (e, f) (rw e refl)
     by true e false f more = rw (e, f) (rw e (ap (λ (l : List Piece). p ∷ l) more))
     by false e b f more = rw e (rw e more)
+
+-- What is settled joins the used pieces, and the others stay.
+
+-- a piece among others in order of position
+abbrev pub with_piece : Piece → List Piece → List Piece
+with_piece p [] = p ∷ []
+with_piece p (q ∷ qs) = if nat_lt q.pos p.pos then q ∷ with_piece p qs else p ∷ q ∷ qs
+
+-- before those that begin behind it
+put_before : (p : Piece) (at : ℕ) (ps : List Piece) (end : ℕ) → IsLaid at ps end → p.pos < at → with_piece p (used_of ps) ≡ p ∷ used_of ps
+put_before p at [] end l h = refl
+put_before p at (q ∷ qs) end l h = by (is_used q) refl (put_before p (at + q.size) qs end l.2 (omega arith))
+  where
+    by : (b : Bool) → is_used q ≡ b → with_piece p (used_of qs) ≡ p ∷ used_of qs → with_piece p (used_of (q ∷ qs)) ≡ p ∷ used_of (q ∷ qs)
+    by true e more = let n : nat_lt q.pos p.pos ≡ false = le-ltb q.pos p.pos (omega (arith, h, l.0.place)) in rw e (rw n refl)
+    by false e more = rw e more
+
+settled_from : (pos len : ℕ) (owner : Owner) (at : ℕ) (ps : List Piece) (end : ℕ) (p : Piece) → IsLaid at ps end → first (is_reserved_at pos) ps ≡ Some p
+    → used_of (replaced (is_reserved_at pos) (λ q. settled len owner q ∷ []) ps) ≡ with_piece (settled len owner p) (used_of ps)
+settled_from pos len owner at [] end p l e = absurd cc
+settled_from pos len owner at (q ∷ qs) end p l e = by (is_reserved_at pos q) refl (settled_from pos len owner (at + q.size) qs end p l.2)
+  where
+    by : (b : Bool) → is_reserved_at pos q ≡ b
+        → (first (is_reserved_at pos) qs ≡ Some p → used_of (replaced (is_reserved_at pos) (λ r. settled len owner r ∷ []) qs) ≡ with_piece (settled len owner p) (used_of qs))
+        → used_of (replaced (is_reserved_at pos) (λ r. settled len owner r ∷ []) (q ∷ qs)) ≡ with_piece (settled len owner p) (used_of (q ∷ qs))
+    by true f more =
+        let s : q ≡ p = (let g : Some q ≡ Some p = rw f at e in cc) in
+        let u = reserved_unused pos q f in
+        let n = put_before (settled len owner q) (at + q.size) qs end l.2 (omega (arith, l.0.place, l.0.some)) in
+        subst (λ (r : Piece). used_of (replaced (is_reserved_at pos) (λ x. settled len owner x ∷ []) (q ∷ qs)) ≡ with_piece (settled len owner r) (used_of (q ∷ qs))) s
+        (rw (f, u) (sym n))
+    by false f more =
+        let m : first (is_reserved_at pos) qs ≡ Some p = rw f at e in
+        let far = laid_has (at + q.size) qs end p l.2 (first_has (is_reserved_at pos) qs p m).0 in
+        let n : nat_lt q.pos p.pos ≡ true = lt-ltb q.pos p.pos (omega (arith, far, l.0.place, l.0.some)) in
+        rw f (other (is_used q) refl n (more m))
+      where
+        other : (b : Bool) → is_used q ≡ b → nat_lt q.pos p.pos ≡ true → used_of (replaced (is_reserved_at pos) (λ r. settled len owner r ∷ []) qs) ≡ with_piece (settled len owner p) (used_of qs)
+            → used_of (q ∷ replaced (is_reserved_at pos) (λ r. settled len owner r ∷ []) qs) ≡ with_piece (settled len owner p) (used_of (q ∷ qs))
+        other true g n more = rw g (rw n (ap (λ (l : List Piece). q ∷ l) more))
+        other false g n more = rw g more
+
+pub used_settled : (pos len : ℕ) (owner : Owner) (ps : List Piece) (end : ℕ) (p : Piece) → IsLaid 0 ps end → first (is_reserved_at pos) ps ≡ Some p
+    → used_of (replaced (is_reserved_at pos) (λ q. settled len owner q ∷ []) ps) ≡ with_piece (settled len owner p) (used_of ps)
+used_settled pos len owner ps end p l e = settled_from pos len owner 0 ps end p l e

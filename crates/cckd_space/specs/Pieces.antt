@@ -1,5 +1,5 @@
 -- A file's bytes as a list of pieces in order of position, and what each act makes of the list.
-use Rattle.std.specs.Prelude.{◌≡◌, ℕ, ◌+◌, ◌-◌, ◌*◌, ◌/◌, ◌<◌, ◌≤◌, min, max, Bool, true, false, ◌&&◌, nat_le, nat_lt, ◌==◌, if◌then◌else◌, List, [], ◌∷◌, ◌++◌, Option, None, Some}
+use Rattle.std.specs.Prelude.{◌≡◌, ℕ, ◌+◌, ◌-◌, ◌*◌, ◌/◌, ◌<◌, ◌≤◌, min, max, Bool, true, false, ◌&&◌, ◌||◌, nat_le, nat_lt, ◌==◌, if◌then◌else◌, List, [], ◌∷◌, ◌++◌, Option, None, Some}
 use Rattle.cckd_base.specs.declared.space.Owner.{Owner}
 use Rattle.cckd_base.specs.declared.space.Owner.TheVariants.{Nobody}
 use Rattle.cckd_base.specs.declared.space.Extent.{Extent}
@@ -215,6 +215,11 @@ pub record IsPieceAt (at : ℕ) (p : Piece) : Type 0 where
 abbrev pub IsApart : Piece → List Piece → Type 0
 IsApart p [] = Unit {0}
 IsApart p (q ∷ qs) = (is_free p && is_free q) ≡ false
+
+-- each piece is Used or Free, so nothing is under way
+abbrev pub AreUsedOrFree : List Piece → Type 0
+AreUsedOrFree [] = Unit {0}
+AreUsedOrFree (p ∷ ps) = ((is_used p || is_free p) ≡ true) × AreUsedOrFree ps
 
 -- the pieces cover the bytes from one place up to another, each byte once, and no two Free ones are neighbours
 abbrev pub IsLaid : ℕ → List Piece → ℕ → Type 0

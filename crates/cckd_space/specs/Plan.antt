@@ -5,7 +5,7 @@ use Rattle.cckd_base.specs.declared.space.Full.{Full}
 use Rattle.cckd_base.specs.declared.space.Extent.{Extent}
 use Rattle.cckd_space.specs.declared.piece.Piece.{Piece}
 use Rattle.cckd_space.specs.declared.piece.Totals.{Totals}
-use Rattle.cckd_space.specs.Pieces.{first, replaced, has_room, has_room_below, reserved_in, appended, end_place, aligned_up, largest, IsLaid, piece_end, is_free, is_used, is_roomy, is_roomy_from, pieces_of, roomy_len, used_len, greatest, summed, counted}
+use Rattle.cckd_space.specs.Pieces.{first, replaced, has_room, has_room_below, reserved_in, appended, end_place, aligned_up, largest, AreUsedOrFree, IsLaid, piece_end, is_free, is_used, is_roomy, is_roomy_from, pieces_of, roomy_len, used_len, greatest, summed, counted}
 
 -- the pieces of a file, its size, the size that it may grow to, and how many pieces may still be added
 pub record Plan : Type 0 where
@@ -22,11 +22,20 @@ pub record IsSound (plan : Plan) : Type 0 where
 abbrev pub has_byte : ℕ → Piece → Bool
 has_byte at p = nat_le p.pos at && nat_lt at (piece_end p)
 
--- each byte of the file lies in one piece, none beyond it does, and no byte is both used and free
+-- a byte of the file lies in a Used piece, or in a Free one
+abbrev pub has_used_byte : ℕ → Piece → Bool
+has_used_byte at p = is_used p && has_byte at p
+
+abbrev pub has_free_byte : ℕ → Piece → Bool
+has_free_byte at p = is_free p && has_byte at p
+
+-- each byte of the file lies in one piece, none beyond it does, and no byte is both used and free;
+-- where every piece is Used or Free, each byte of the file is exactly one of both
 pub record CoversBytes (plan : Plan) : Type 0 where
   pub within : (at : ℕ) → at < plan.size → counted (has_byte at) plan.pieces ≡ 1
   pub beyond : (at : ℕ) → plan.size ≤ at → counted (has_byte at) plan.pieces ≡ 0
-  pub apart : (at : ℕ) → counted (λ p. is_used p && has_byte at p) plan.pieces + counted (λ p. is_free p && has_byte at p) plan.pieces ≤ 1
+  pub apart : (at : ℕ) → counted (has_used_byte at) plan.pieces + counted (has_free_byte at) plan.pieces ≤ 1
+  pub shared : AreUsedOrFree plan.pieces → (at : ℕ) → at < plan.size → counted (has_used_byte at) plan.pieces + counted (has_free_byte at) plan.pieces ≡ 1
 
 -- the pieces and the size are these now; the rest stays, and the spare pieces went where they were used
 pub record Becomes (old new : Plan) (pieces : List Piece) (size : ℕ) : Type 0 where

@@ -1,6 +1,6 @@
 use Rattle.std.proofs.Common.{subst, arith}
 use Rattle.cckd_space.specs.Plan.{CoversBytes}
-use Rattle.cckd_space.proofs.CallerLemmas.{one_within, none_beyond, kinds_counted, no_more}
+use Rattle.cckd_space.proofs.CallerLemmas.{one_within, none_beyond, kinds_counted, kinds_shared, no_more}
 use Rattle.cckd_space.proofs.space.Space.pieces.Goals as goal
 
 pub returns-clause-covers : goal.returns-clause-covers
@@ -11,5 +11,9 @@ returns-clause-covers c =
       apart = λ at.
           let k = kinds_counted c.self.inside.pieces.items at in
           let n = no_more c.self.inside.pieces.items c.self.inside.size at c.self.invariant.laid in
+          omega (arith, k, n);
+      shared = λ both at h.
+          let k = kinds_shared c.self.inside.pieces.items at both in
+          let n = one_within 0 c.self.inside.pieces.items c.self.inside.size at c.self.invariant.laid (omega arith) h in
           omega (arith, k, n);
     })
