@@ -15,7 +15,7 @@ IsShut zero ps = Unit {0}
 IsShut (suc n) [] = ⊥
 IsShut (suc n) (p ∷ ps) = (is_open p ≡ false) × IsShut n ps
 
--- the bytes of a Leaving piece wait for their replacing entry to be written
+-- of the five kinds, the one whose replacing entry is staged
 abbrev pub leaving_kind : Kind → Bool
 leaving_kind Leaving = true
 leaving_kind Used = false
@@ -23,7 +23,7 @@ leaving_kind Free = false
 leaving_kind Reserved = false
 leaving_kind Pending = false
 
--- the bytes of a Pending piece wait for a sync
+-- the one whose replacing entry was written, and isn't synced
 abbrev pub pending_kind : Kind → Bool
 pending_kind Pending = true
 pending_kind Used = false
@@ -31,9 +31,11 @@ pending_kind Free = false
 pending_kind Reserved = false
 pending_kind Leaving = false
 
+-- a Leaving piece
 abbrev pub is_leaving : Piece → Bool
 is_leaving p = leaving_kind p.kind
 
+-- a Pending piece
 abbrev pub is_pending : Piece → Bool
 is_pending p = pending_kind p.kind
 

@@ -7,6 +7,7 @@ use Rattle.cckd_space.specs.declared.piece.Kind.{Kind}
 use Rattle.cckd_space.specs.declared.piece.Kind.TheVariants.{Used, Free, Reserved, Leaving, Pending}
 use Rattle.cckd_space.specs.declared.piece.Piece.{Piece}
 
+-- of the five kinds, the one whose bytes nobody needs
 abbrev pub free_kind : Kind → Bool
 free_kind Free = true
 free_kind Used = false
@@ -14,6 +15,7 @@ free_kind Reserved = false
 free_kind Leaving = false
 free_kind Pending = false
 
+-- the one whose bytes something on the disk names
 abbrev pub used_kind : Kind → Bool
 used_kind Used = true
 used_kind Free = false
@@ -21,6 +23,7 @@ used_kind Reserved = false
 used_kind Leaving = false
 used_kind Pending = false
 
+-- the one whose bytes are placed, and named by nothing yet
 abbrev pub reserved_kind : Kind → Bool
 reserved_kind Reserved = true
 reserved_kind Used = false
@@ -28,9 +31,11 @@ reserved_kind Free = false
 reserved_kind Leaving = false
 reserved_kind Pending = false
 
+-- a Free piece
 abbrev pub is_free : Piece → Bool
 is_free p = free_kind p.kind
 
+-- a Used piece
 abbrev pub is_used : Piece → Bool
 is_used p = used_kind p.kind
 
@@ -38,9 +43,11 @@ is_used p = used_kind p.kind
 abbrev pub is_roomy : Piece → Bool
 is_roomy p = is_free p && nat_le 8 p.size
 
+-- a Used piece that begins at a place
 abbrev pub is_used_at : ℕ → Piece → Bool
 is_used_at pos p = is_used p && (p.pos == pos)
 
+-- a Reserved piece that begins at a place
 abbrev pub is_reserved_at : ℕ → Piece → Bool
 is_reserved_at pos p = reserved_kind p.kind && (p.pos == pos)
 
@@ -52,9 +59,11 @@ piece_end p = p.pos + p.size
 abbrev pub aligned_up : ℕ → ℕ
 aligned_up at = (at + 7) / 8 * 8
 
+-- so many free bytes from a place on
 abbrev pub free_piece : ℕ → ℕ → Piece
 free_piece pos size = record { pos = pos; len = size; size = size; kind = Free; owner = Nobody }
 
+-- so many reserved bytes from a place on
 abbrev pub reserved_piece : ℕ → ℕ → Piece
 reserved_piece pos size = record { pos = pos; len = size; size = size; kind = Reserved; owner = Nobody }
 
@@ -127,12 +136,15 @@ cut len size ps = trimmed ps ++ free_run (used_end ps) (min len size)
 abbrev pub settled : ℕ → Owner → Piece → Piece
 settled len owner p = record { pos = p.pos; len = len; size = p.size; kind = Used; owner = owner }
 
+-- the piece once its replacing entry is staged
 abbrev pub left : Piece → Piece
 left p = record { pos = p.pos; len = p.size; size = p.size; kind = Leaving; owner = Nobody }
 
+-- the piece once nobody needs its bytes
 abbrev pub freed : Piece → Piece
 freed p = free_piece p.pos p.size
 
+-- the piece of a kind once the replacing entries were written: of Leaving, it is Pending
 abbrev pub retired_as : Kind → Piece → Piece
 retired_as Leaving p = record { pos = p.pos; len = p.size; size = p.size; kind = Pending; owner = Nobody }
 retired_as Used p = p
@@ -144,6 +156,7 @@ retired_as Pending p = p
 abbrev pub retired : Piece → Piece
 retired p = retired_as p.kind p
 
+-- the piece of a kind once a sync has told: of Pending, it is Free
 abbrev pub released_as : Kind → Piece → Piece
 released_as Pending p = free_piece p.pos p.size
 released_as Used p = p
@@ -165,11 +178,12 @@ abbrev pub merged : List Piece → List Piece
 merged [] = []
 merged (p ∷ ps) = joined p (merged ps)
 
--- the sum of the pieces' numbers, and how many pieces pass a test
+-- the sum of the pieces' numbers
 abbrev pub summed : (Piece → ℕ) → List Piece → ℕ
 summed number [] = 0
 summed number (p ∷ ps) = number p + summed number ps
 
+-- how many pieces pass a test
 abbrev pub counted : (Piece → Bool) → List Piece → ℕ
 counted test [] = 0
 counted test (p ∷ ps) = (if test p then 1 else 0) + counted test ps
@@ -178,13 +192,15 @@ counted test (p ∷ ps) = (if test p then 1 else 0) + counted test ps
 abbrev pub is_roomy_from : ℕ → Piece → Bool
 is_roomy_from from p = is_roomy p && nat_le from p.pos
 
--- what a piece adds to the used bytes, and to the free ones of the totals
+-- what a piece adds to the used bytes of the totals
 abbrev pub used_len : Piece → ℕ
 used_len p = if is_used p then p.len else 0
 
+-- what a piece adds to the free bytes of the totals: its size, from 8 on
 abbrev pub roomy_len : Piece → ℕ
 roomy_len p = if is_roomy p then p.size else 0
 
+-- a used space as a piece
 abbrev pub used_piece : Extent → Piece
 used_piece e = record { pos = e.pos; len = e.len; size = e.size; kind = Used; owner = e.owner }
 
@@ -198,6 +214,7 @@ abbrev pub AreUsed : ℕ → List Extent → ℕ → Type 0
 AreUsed at [] size = at ≤ size
 AreUsed at (e ∷ es) size = (at ≤ e.pos) × (1 ≤ e.len) × (e.len ≤ e.size) × AreUsed (e.pos + e.size) es size
 
+-- a piece of a kind is well formed: a Used one is in use from its first byte on, any other belongs to Nobody and is in use as a whole
 abbrev pub IsFormedAs : Kind → Piece → Type 0
 IsFormedAs Used p = (1 ≤ p.len) × (p.len ≤ p.size)
 IsFormedAs Free p = (p.len ≡ p.size) × (p.owner ≡ Nobody)

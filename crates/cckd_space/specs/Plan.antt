@@ -22,10 +22,11 @@ pub record IsSound (plan : Plan) : Type 0 where
 abbrev pub has_byte : ℕ → Piece → Bool
 has_byte at p = nat_le p.pos at && nat_lt at (piece_end p)
 
--- a byte of the file lies in a Used piece, or in a Free one
+-- a byte of the file lies in a Used piece
 abbrev pub has_used_byte : ℕ → Piece → Bool
 has_used_byte at p = is_used p && has_byte at p
 
+-- a byte of the file lies in a Free piece
 abbrev pub has_free_byte : ℕ → Piece → Bool
 has_free_byte at p = is_free p && has_byte at p
 
@@ -60,6 +61,7 @@ first_fit_below need before ps = option_map (λ p. aligned_up p.pos) (first (has
 abbrev pub place_of : ℕ → List Piece → ℕ
 place_of need ps = unwrap_or (first_fit need ps) (end_place ps)
 
+-- the list with so many bytes reserved: where they fit, or else at the end
 abbrev pub reserved_at : Option ℕ → ℕ → List Piece → List Piece
 reserved_at (Some at) need ps = replaced (has_room need) (reserved_in need) ps
 reserved_at None need ps = appended need ps
@@ -68,6 +70,7 @@ reserved_at None need ps = appended need ps
 abbrev pub with_reserved : ℕ → List Piece → List Piece
 with_reserved need ps = reserved_at (first_fit need ps) need ps
 
+-- the size of the file once so many bytes are reserved: it grows where they fit nowhere
 abbrev pub size_at : Option ℕ → ℕ → Plan → ℕ
 size_at (Some at) need plan = plan.size
 size_at None need plan = end_place plan.pieces + need
@@ -76,6 +79,7 @@ size_at None need plan = end_place plan.pieces + need
 abbrev pub size_with : ℕ → Plan → ℕ
 size_with need plan = size_at (first_fit need plan.pieces) need plan
 
+-- what a refusal tells: the bytes asked for, the greatest offer of a Free piece, and the room at the end
 abbrev pub numbers : ℕ → Plan → Full
 numbers need plan = record { need = need; largest = largest plan.pieces; room = room plan }
 

@@ -1,5 +1,5 @@
 //! A `Space` and the plain program, to which the same calls are made.
-ghost use Rattle.std.specs.Prelude.{◌≡◌, ◌≤◌, IfSome, Some};
+ghost use Rattle.std.specs.Prelude.{◌≡◌, ◌≤◌, IfSome, Some, if◌then◌else◌};
 ghost use Rattle.cckd_space.specs.Pieces.{AreUsed, first, is_reserved_at, is_used_at};
 ghost use Rattle.cckd_space.specs.Plan.{IsNeed};
 
@@ -79,33 +79,26 @@ pub(crate) fn file(alloc: Global, number: u32, seed: u32) -> Result<Pair, Fail> 
     }
 }
 
-/// The Reserved piece of the file behind the first few, or None.
-fn some_reserved(space: &Space, few: u32) -> Option<Piece>
-    ensures { IfSome result (λ p. first (is_reserved_at p.pos) space.now.pieces ≡ Some p) }
+/// Whether a piece is Used, or else Reserved.
+fn is_wanted(piece: &Piece, used: bool) -> bool
+    ensures { result ≡ (if used then is_used_at piece.now.pos piece.now else is_reserved_at piece.now.pos piece.now) }
 {
-    let pieces = space.pieces();
-    let mut left = few;
-    for at in 0..pieces.len() {
-        let piece = pieces[at];
-        if piece.is_reserved_at(piece.pos) {
-            if left == 0 {
-                return Some(piece);
-            }
-            left -= 1;
-        }
+    if used {
+        piece.is_used_at(piece.pos)
+    } else {
+        piece.is_reserved_at(piece.pos)
     }
-    None
 }
 
-/// The Used piece of the file behind the first few, or None.
-fn some_used(space: &Space, few: u32) -> Option<Piece>
-    ensures { IfSome result (λ p. first (is_used_at p.pos) space.now.pieces ≡ Some p) }
+/// The Used piece of the file behind the first few, or else the Reserved one; or None.
+fn some_piece(space: &Space, used: bool, few: u32) -> Option<Piece>
+    ensures { IfSome result (λ p. first (λ q. if used then is_used_at p.pos q else is_reserved_at p.pos q) space.now.pieces ≡ Some p) }
 {
     let pieces = space.pieces();
     let mut left = few;
     for at in 0..pieces.len() {
         let piece = pieces[at];
-        if piece.is_used_at(piece.pos) {
+        if is_wanted(&piece, used) {
             if left == 0 {
                 return Some(piece);
             }
@@ -150,7 +143,7 @@ impl Pair {
 
     fn settle(&mut self) {
         let number = self.number();
-        if let Some(piece) = some_reserved(&self.space, number % 4) {
+        if let Some(piece) = some_piece(&self.space, false, number % 4) {
             let len = (number % 160 + 1).min(piece.size);
             if 1 <= len {
                 self.space.settle(piece.pos, len, Owner::Track(number));
@@ -161,7 +154,7 @@ impl Pair {
 
     fn leave(&mut self) {
         let number = self.number();
-        if let Some(piece) = some_used(&self.space, number % 4) {
+        if let Some(piece) = some_piece(&self.space, true, number % 4) {
             self.space.leave(piece.pos);
             plain::leave(&mut self.bytes, piece.pos);
         }
@@ -169,7 +162,7 @@ impl Pair {
 
     fn give_back(&mut self) {
         let number = self.number();
-        if let Some(piece) = some_reserved(&self.space, number % 4) {
+        if let Some(piece) = some_piece(&self.space, false, number % 4) {
             self.space.give_back(piece.pos);
             plain::give_back(&mut self.bytes, piece.pos);
         }
@@ -177,12 +170,12 @@ impl Pair {
 
     fn retire(&mut self) {
         self.space.retire_all();
-        plain::turn(&mut self.bytes, Kind::Leaving, Kind::Pending);
+        plain::change_all(&mut self.bytes, Kind::Leaving, Kind::Pending);
     }
 
     fn release(&mut self) {
         self.space.release_all();
-        plain::turn(&mut self.bytes, Kind::Pending, Kind::Free);
+        plain::change_all(&mut self.bytes, Kind::Pending, Kind::Free);
     }
 
     fn trim(&mut self, rt: &impl Abort) -> Result<(), Fail> {

@@ -49,6 +49,17 @@ fn put_run(pieces: &mut Vec<Piece>, at: usize, from: u32, to: u32)
     }
 }
 
+/// Puts the free bytes between two places behind the list, if there are any.
+pub(crate) fn push_run(pieces: &mut Vec<Piece>, from: u32, to: u32)
+    requires room { from < to → vec_len pieces.old < vec_capacity pieces.old }
+    ensures items { pieces.new.items ≡ pieces.old.items ++ free_run from to }
+    ensures len { vec_len pieces.new ≤ vec_len pieces.old + 1 }
+    ensures capacity { vec_capacity pieces.old ≤ vec_capacity pieces.new }
+{
+    let count = pieces.len();
+    put_run(pieces, count, from, to);
+}
+
 /// Reserves the first `need` bytes from the first multiple of 8 of the piece at this index.
 pub(crate) fn reserve_at(pieces: &mut Vec<Piece>, at: usize, need: u32) -> u32
     requires within { at < vec_len pieces.old }
@@ -150,8 +161,7 @@ pub(crate) fn reserve_end(pieces: &mut Vec<Piece>, end: u32, size: u32, need: u3
 {
     cut_end(pieces, 0, size);
     let place = align(end) as u32;
-    let count = pieces.len();
-    put_run(pieces, count, end, place);
+    push_run(pieces, end, place);
     let Ok(()) = pieces.push(reserved(place, need)) else {
         unreachable!();
     };

@@ -3,7 +3,8 @@ ghost use Rattle.std.specs.Prelude.{◌≡◌, ◌+◌, ◌*◌, ◌-◌, ◌<�
 ghost use Rattle.std.specs.Vec.{vec_len, vec_capacity};
 ghost use Rattle.cckd_space.specs.Pieces.{AreUsed, pieces_of, free_run, used_piece};
 
-use crate::piece::{Piece, free, used};
+use crate::editing::push_run;
+use crate::piece::{Piece, used};
 use cckd_base::{Extent, Memory};
 use std::alloc::Global;
 
@@ -16,17 +17,6 @@ fn push_piece(pieces: &mut Vec<Piece>, piece: Piece)
     let Ok(()) = pieces.push(piece) else {
         unreachable!();
     };
-}
-
-fn push_run(pieces: &mut Vec<Piece>, from: u32, to: u32)
-    requires room { vec_len pieces.old < vec_capacity pieces.old }
-    ensures items { pieces.new.items ≡ pieces.old.items ++ free_run from to }
-    ensures len { vec_len pieces.new ≤ vec_len pieces.old + 1 }
-    ensures capacity { vec_capacity pieces.old ≤ vec_capacity pieces.new }
-{
-    if from < to {
-        push_piece(pieces, free(from, to - from));
-    }
 }
 
 /// Puts the free bytes up to a used space and the space itself behind the pieces so far.

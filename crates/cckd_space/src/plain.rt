@@ -186,7 +186,7 @@ pub(crate) fn give_back(bytes: &mut [Byte], pos: u32) {
 }
 
 /// Makes the bytes of one kind bytes of another.
-pub(crate) fn turn(bytes: &mut [Byte], from: Kind, to: Kind) {
+pub(crate) fn change_all(bytes: &mut [Byte], from: Kind, to: Kind) {
     for byte in bytes.iter_mut() {
         if byte.kind == from {
             byte.kind = to;

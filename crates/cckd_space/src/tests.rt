@@ -3,7 +3,7 @@ ghost use Rattle.std.specs.Prelude.{◌≤◌};
 ghost use Rattle.cckd_space.specs.Plan.{IsNeed};
 
 use crate::beside::{file, follow};
-use crate::{Extent, Full, Owner, Space};
+use crate::{Extent, Full, Kind, Owner, Piece, Space, Totals};
 use std::alloc::Global;
 use std::test::Fail;
 
@@ -78,6 +78,207 @@ fn a_gap_and_the_end_offer_what_each_has(rt: HostRuntime) -> Result<(), Fail> {
     assert_eq!(rt; placed(&mut space, 2048)?, Err(full));
     assert_eq!(rt; placed(&mut space, 1000)?, Ok(1056));
     assert_eq!(rt; placed(&mut space, 2040)?, Ok(3056));
+    Ok(())
+}
+
+/// What is worked out by hand of a file: its totals, the free space at or after a place, and its size
+/// once it is trimmed.
+#[derive(Clone, Copy)]
+struct Worked {
+    totals: Totals,
+    from: u32,
+    next_free: Option<(u32, u32)>,
+    trimmed: u32,
+}
+
+/// Each file of `worked_file`.
+const WORKED: [Worked; 5] = [
+    Worked {
+        totals: Totals {
+            size: 3200,
+            used: 3149,
+            free: 3104,
+            free_total: 48,
+            free_largest: 48,
+            free_number: 1,
+            free_imbed: 3,
+        },
+        from: 0,
+        next_free: Some((3104, 48)),
+        trimmed: 3200,
+    },
+    Worked {
+        totals: Totals {
+            size: 400,
+            used: 54,
+            free: 13,
+            free_total: 309,
+            free_largest: 254,
+            free_number: 3,
+            free_imbed: 37,
+        },
+        from: 14,
+        next_free: Some((75, 254)),
+        trimmed: 359,
+    },
+    Worked {
+        totals: Totals {
+            size: 100,
+            used: 53,
+            free: 60,
+            free_total: 40,
+            free_largest: 40,
+            free_number: 1,
+            free_imbed: 7,
+        },
+        from: 16,
+        next_free: Some((60, 40)),
+        trimmed: 60,
+    },
+    Worked {
+        totals: Totals {
+            size: 1056,
+            used: 1056,
+            free: 0,
+            free_total: 0,
+            free_largest: 0,
+            free_number: 0,
+            free_imbed: 0,
+        },
+        from: 0,
+        next_free: None,
+        trimmed: 1056,
+    },
+    Worked {
+        totals: Totals {
+            size: 10,
+            used: 0,
+            free: 0,
+            free_total: 10,
+            free_largest: 10,
+            free_number: 1,
+            free_imbed: 0,
+        },
+        from: 1,
+        next_free: None,
+        trimmed: 0,
+    },
+];
+
+/// A header area, a table, 48 free bytes, and a track of 45 bytes in 48.
+fn behind_a_table(alloc: Global) -> Result<Space, Fail> {
+    let used = [
+        Extent {
+            pos: 0,
+            len: 1056,
+            size: 1056,
+            owner: Owner::Header,
+        },
+        Extent {
+            pos: 1056,
+            len: 2048,
+            size: 2048,
+            owner: Owner::Table(0),
+        },
+        Extent {
+            pos: 3152,
+            len: 45,
+            size: 48,
+            owner: Owner::Track(0),
+        },
+    ];
+    Ok(Space::from_used(alloc, &used, 3200, 4096, 0)?)
+}
+
+/// Three used spaces with 14 and 254 free bytes between them, and 41 behind.
+fn unaligned(alloc: Global) -> Result<Space, Fail> {
+    let used = [
+        Extent {
+            pos: 0,
+            len: 13,
+            size: 13,
+            owner: Owner::Header,
+        },
+        Extent {
+            pos: 27,
+            len: 40,
+            size: 48,
+            owner: Owner::Table(1),
+        },
+        Extent {
+            pos: 329,
+            len: 1,
+            size: 30,
+            owner: Owner::Track(7),
+        },
+    ];
+    Ok(Space::from_used(alloc, &used, 400, 800, 0)?)
+}
+
+/// Four free bytes, which count as imbedded, and 40 at the end.
+fn small_gap(alloc: Global) -> Result<Space, Fail> {
+    let used = [
+        Extent {
+            pos: 0,
+            len: 16,
+            size: 16,
+            owner: Owner::Header,
+        },
+        Extent {
+            pos: 20,
+            len: 37,
+            size: 40,
+            owner: Owner::Track(1),
+        },
+    ];
+    Ok(Space::from_used(alloc, &used, 100, 200, 0)?)
+}
+
+fn worked_file(alloc: Global, number: usize) -> Result<Space, Fail> {
+    match number {
+        0 => behind_a_table(alloc),
+        1 => unaligned(alloc),
+        2 => small_gap(alloc),
+        3 => header(alloc, 1056, 4096),
+        _ => Ok(Space::from_used(alloc, &[], 10, 100, 0)?),
+    }
+}
+
+#[test]
+fn totals_next_free_and_trim_are_as_worked_out(rt: HostRuntime) -> Result<(), Fail> {
+    let rows = WORKED;
+    for number in 0..rows.len() {
+        let row = &rows[number];
+        let mut space = worked_file(rt.alloc(), number)?;
+        assert_eq!(rt; space.totals(), row.totals);
+        assert_eq!(rt; space.next_free(row.from), row.next_free);
+        assert_eq!(rt; space.trim(), row.trimmed);
+        assert_eq!(rt; space.totals().size, row.trimmed);
+        assert_eq!(rt; space.next_free(row.trimmed), None);
+    }
+    Ok(())
+}
+
+#[test]
+fn a_table_given_back_leaves_the_header_alone(rt: HostRuntime) -> Result<(), Fail> {
+    let mut space = header(rt.alloc(), 1056, 4096)?;
+    space.grow(2)?;
+    let answer = space.place(2048);
+    assert_eq!(rt; answer, Ok(1056));
+    if let Ok(pos) = answer {
+        space.give_back(pos);
+    }
+    assert_eq!(rt; space.totals().size, 3104);
+    space.cut_back(1056);
+    assert_eq!(rt; space.totals().size, 1056);
+    let left = [Piece {
+        pos: 0,
+        len: 1056,
+        size: 1056,
+        kind: Kind::Used,
+        owner: Owner::Header,
+    }];
+    assert_eq!(rt; space.pieces(), left.as_slice());
     Ok(())
 }
 
