@@ -1,5 +1,5 @@
 //! The space of a file.
-ghost use Rattle.std.specs.Prelude.{◌≡◌, ◌+◌, ◌-◌, ◌*◌, ◌%◌, ◌<◌, ◌≤◌, ◌↔◌, ◌^◌, [], ◌∷◌, length, map, min, max, IfOk, OnOk, OnErr, IfErr, IsErr, IsOk, IsSome, IfSome, OnSome, None, Some, position};
+ghost use Rattle.std.specs.Prelude.{◌≡◌, ◌+◌, ◌-◌, ◌*◌, ◌%◌, ◌<◌, ◌≤◌, ◌↔◌, ◌^◌, [], ◌∷◌, length, map, min, max, IfOk, OnOk, OnErr, IfErr, IsErr, IsOk, IsSome, IfSome, OnSome, None, Some, position, false};
 ghost use Rattle.std.specs.Vec.{vec_len, vec_capacity};
 
 use crate::editing::{
@@ -112,16 +112,27 @@ impl Space {
         }
     }
 
+    /// Whether a free piece may have room for so many bytes. A search for one begins at `solid` then.
+    fn may_fit(&mut self, need: u32) -> bool
+        ensures none { result ≡ false → largest self.old.pieces < need }
+        ensures same { self.new ≡ self.old }
+    {
+        if self.most < need as u64 {
+            return false;
+        }
+        self.solid = open_index(self.pieces.as_slice(), self.solid);
+        true
+    }
+
     /// The index of the first piece in which so many bytes fit.
     fn find_room(&mut self, need: u32) -> Option<usize>
         requires { 8 ≤ need }
         ensures found { result ≡ position (has_room need) self.old.pieces }
         ensures same { self.new ≡ self.old }
     {
-        if self.most < need as u64 {
+        if !self.may_fit(need) {
             return None;
         }
-        self.solid = open_index(self.pieces.as_slice(), self.solid);
         let found = room_index(self.pieces.as_slice(), self.solid, need);
         if found.is_none() {
             self.most = need as u64 - 1;
@@ -181,10 +192,9 @@ impl Space {
         ensures there { IfSome result (λ pos. first (is_reserved_at pos) self.new.pieces ≡ Some (reserved_piece pos need)) }
         ensures spent { self.old.spare ≤ self.new.spare + 2 }
     {
-        if self.most < need as u64 {
+        if !self.may_fit(need) {
             return None;
         }
-        self.solid = open_index(self.pieces.as_slice(), self.solid);
         reserve_below(&mut self.pieces, self.solid, need, before)
     }
 
