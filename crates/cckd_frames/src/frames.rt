@@ -213,6 +213,7 @@ impl Frames {
         put_mark(&mut self.nodes, count, f.0, at);
     }
 
+    /// The mark of the entry in this frame.
     pub fn marked(&self, f: Frame) -> Option<u32>
         requires { IsUsed f.0 self.now.entries }
         ensures { IfSome (entry_in f.0 self.now.entries) (λ e. result ≡ e.mark) }

@@ -132,55 +132,124 @@ fn touch_row(
     Ok(())
 }
 
-/// Whether `count` frames and a plain list are the same after each of `calls` calls of a fixed
-/// sequence. The first entry is compared each time, and all of them every `often` calls.
-fn agrees(alloc: Global, count: u32, keys: u32, calls: u32, often: u32) -> Result<bool, Fail>
-    requires { (1 ≤ count) × (count ≤ 4096) × (0 < keys) × (0 < often) }
+/// A run of a fixed sequence of calls.
+struct Run {
+    count: u32,
+    keys: u32,
+    calls: u32,
+    // All is forgotten before each call whose number is a multiple of this.
+    forget_every: u32,
+    // From this call on all entries are compared, and before it the first alone.
+    whole_from: u32,
+}
+
+/// Makes the call with this number on both. Whether they answer the same.
+fn call_both(
+    alloc: Global,
+    frames: &mut Frames,
+    rows: &mut Vec<Row>,
+    run: &Run,
+    seed: u32,
+) -> Result<bool, Fail>
+    requires { (0 < run.now.keys) × (9 ≤ frames.old.frame_len) }
+    ensures { frames.new.frame_len ≡ frames.old.frame_len }
 {
-    let mut frames = Frames::new(alloc, count, 9)?;
-    let mut rows: Vec<Row> = Vec::new(alloc);
-    let mut seed = 2311u32;
-    for call in 0..calls {
-        seed = step(seed);
-        let key = (seed >> 8) % keys;
-        let number = seed >> 4;
-        match seed >> 25 {
-            0 if number % 8 == 0 => {
-                frames.forget_all();
-                rows.clear();
-            }
-            1..=9 => {
-                if frames.peek(key).is_some() != place_of(rows.as_slice(), key).is_some() {
-                    return Ok(false);
-                }
-            }
-            _ => {
-                let len = number % 10;
-                touch(&mut frames, key, len, number);
-                touch_row(alloc, &mut rows, key, count as usize, len, number)?;
-            }
-        }
-        let last = match rows.last() {
-            Some(row) if rows.len() >= count as usize => Some(row.key),
-            _ => None,
-        };
-        let whole = call % often == 0;
-        let some = if whole { rows.len() } else { rows.len().min(1) };
-        if frames.last() != last || !holds_each(&frames, &rows.as_slice()[..some]) {
-            return Ok(false);
-        }
-        if whole && !is_in_order(&frames, rows.as_slice()) {
-            return Ok(false);
-        }
+    let key = (seed >> 8) % run.keys;
+    let number = seed >> 4;
+    if seed >> 25 < 9 {
+        return Ok(frames.peek(key).is_some() == place_of(rows.as_slice(), key).is_some());
     }
+    let len = number % 10;
+    touch(frames, key, len, number);
+    touch_row(alloc, rows, key, run.count as usize, len, number)?;
     Ok(true)
 }
 
+/// The last key is that of the last row where all frames are in use, and none is told before.
+fn has_last(frames: &Frames, rows: &[Row], count: u32) -> bool {
+    let last = match rows.last() {
+        Some(row) if rows.len() >= count as usize => Some(row.key),
+        _ => None,
+    };
+    frames.last() == last
+}
+
+/// Frames and a plain list take the same calls, and are compared after each. Counts the calls with
+/// all frames in use, after which all entries were the same. None where anything differs.
+fn agrees(alloc: Global, run: &Run) -> Result<Option<u32>, Fail>
+    requires { (1 ≤ run.now.count) × (run.now.count ≤ 4096) × (0 < run.now.keys) × (0 < run.now.forget_every) }
+{
+    let mut frames = Frames::new(alloc, run.count, 9)?;
+    let mut rows: Vec<Row> = Vec::new(alloc);
+    let mut seed = 2311u32;
+    let mut full = 0u32;
+    for call in 0..run.calls {
+        seed = step(seed);
+        if call % run.forget_every == 0 {
+            frames.forget_all();
+            rows.clear();
+        }
+        if !call_both(alloc, &mut frames, &mut rows, run, seed)? {
+            return Ok(None);
+        }
+        let whole = call >= run.whole_from;
+        let some = if whole { rows.len() } else { rows.len().min(1) };
+        if frames.len() as usize != rows.len()
+            || !has_last(&frames, rows.as_slice(), run.count)
+            || !holds_each(&frames, &rows.as_slice()[..some])
+        {
+            return Ok(None);
+        }
+        if whole && !is_in_order(&frames, rows.as_slice()) {
+            return Ok(None);
+        }
+        if whole && rows.len() == run.count as usize {
+            full = full.wrapping_add(1);
+        }
+    }
+    Ok(Some(full))
+}
+
 #[test]
-fn frames_agree_with_a_plain_list(rt: HostRuntime) -> Result<(), Fail> {
-    assert!(rt; agrees(rt.alloc(), 1, 3, 2_000, 1)?);
-    assert!(rt; agrees(rt.alloc(), 5, 12, 4_000, 1)?);
-    assert!(rt; agrees(rt.alloc(), 4_096, 6_000, 12_000, 997)?);
+fn one_frame_agrees_with_a_plain_list(rt: HostRuntime) -> Result<(), Fail> {
+    let run = &Run {
+        count: 1,
+        keys: 3,
+        calls: 2_000,
+        forget_every: 50,
+        whole_from: 0,
+    };
+    let full = agrees(rt.alloc(), run)?;
+    assert!(rt; full.is_some_and(|calls| calls >= 1_900), "{full:?}");
+    Ok(())
+}
+
+#[test]
+fn five_frames_agree_with_a_plain_list(rt: HostRuntime) -> Result<(), Fail> {
+    let run = &Run {
+        count: 5,
+        keys: 12,
+        calls: 4_000,
+        forget_every: 100,
+        whole_from: 0,
+    };
+    let full = agrees(rt.alloc(), run)?;
+    assert!(rt; full.is_some_and(|calls| calls >= 3_000), "{full:?}");
+    Ok(())
+}
+
+#[test]
+fn the_most_frames_agree_with_a_plain_list(rt: HostRuntime) -> Result<(), Fail> {
+    let run = &Run {
+        count: 4_096,
+        keys: 6_000,
+        calls: 8_000,
+        // Once, before the first call.
+        forget_every: 8_000,
+        whole_from: 7_800,
+    };
+    let full = agrees(rt.alloc(), run)?;
+    assert_eq!(rt; full, Some(200));
     Ok(())
 }
 
@@ -193,5 +262,7 @@ fn new_bytes_are_zeros(rt: HostRuntime) -> Result<(), Fail> {
     let again = frames.take_last(21);
     assert_eq!(rt; again, Frame(0));
     assert!(rt; frames.bytes(again).is_empty());
+    frames.set_len(again, 4);
+    assert_eq!(rt; frames.bytes(again), [0u8; 4].as_slice());
     Ok(())
 }
