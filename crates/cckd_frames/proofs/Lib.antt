@@ -1,4 +1,5 @@
 pub mod ByteLemmas
+pub mod CallerLemmas
 pub mod Calls
 pub mod Contents
 pub mod Crossing

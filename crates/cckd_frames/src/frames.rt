@@ -1,5 +1,5 @@
 //! The list by recency, over the nodes and the bytes of all frames.
-ghost use Rattle.std.specs.Prelude.{◌≡◌, ◌<◌, ◌≤◌, ◌-◌, ◌↔◌, [], ◌∷◌, length, take, slice_get, IfOk, IfSome, IsNone, IsSome, option_map};
+ghost use Rattle.std.specs.Prelude.{◌≡◌, ◌<◌, ◌≤◌, ◌-◌, ◌↔◌, ℕ, List, [], ◌∷◌, length, take, slice_get, IfOk, IfSome, IsNone, IsSome, option_map};
 ghost use Rattle.std.specs.Borrow.{sem};
 ghost use Rattle.cckd_frames.specs.Whole.{back_of as back_nodes};
 
@@ -75,7 +75,7 @@ impl Drop for Frames {
 }
 
 impl Frames {
-    ghost use Rattle.cckd_frames.specs.Frames.{IsKept, with_entries, keys, entry_of, entry_in, frame_of, IsUsed, promoted, blank, with_mark, with_len};
+    ghost use Rattle.cckd_frames.specs.Frames.{IsKept, with_entries, keys, entry_of, entry_in, frame_of, IsUsed, promoted, blank, with_mark, with_len, with_writes};
     ghost use Rattle.cckd_frames.specs.LendingBody.{LendsBody};
 
     /// `count` frames of `frame_len` bytes each, none in use.
@@ -179,6 +179,10 @@ impl Frames {
         requires { IsUsed f.0 self.old.entries }
         ensures* writes_back { sem 𝓛 (LendsBody self.entry f.0 result) }
         ensures value { IfSome (entry_in f.0 self.old.entries) (λ e. result.now ≡ e.body) }
+
+        // For the next call, whatever is written: the frame is in use, and the list is kept.
+        ensures used { (w : List ℕ) → IsUsed f.0 (with_writes f.0 w self.old.entries) }
+        ensures kept { (w : List ℕ) → IsKept (with_entries self.old (with_writes f.0 w self.old.entries)) }
     {
         let len = len_of(&self.nodes, self.count, f.0) as usize;
         let at = f.0 as usize * self.frame_len as usize;

@@ -1,4 +1,5 @@
 ghost use Rattle.std.specs.Prelude.{◌≡◌, ◌≤◌, ◌<◌};
+ghost use Rattle.cckd_frames.specs.Frames.{IsKept, IsUsed, keys, frames as frames_of};
 
 use crate::{Frame, Frames};
 use lru::LruCache;
@@ -264,5 +265,30 @@ fn new_bytes_are_zeros(rt: HostRuntime) -> Result<(), Fail> {
     assert!(rt; frames.bytes(again).is_empty());
     frames.set_len(again, 4);
     assert_eq!(rt; frames.bytes(again), [0u8; 4].as_slice());
+    Ok(())
+}
+
+/// Writes each byte of the entry, and then marks it. What is known after the loan is enough for the
+/// next call, and for the clauses here.
+fn write_and_mark(frames: &mut Frames, frame: Frame, byte: u8, mark: u32)
+    requires { IsUsed frame.0 frames.old.entries }
+    ensures used { IsUsed frame.0 frames.new.entries }
+    ensures kept { IsKept frames.new }
+    ensures keys { keys frames.new.entries ≡ keys frames.old.entries }
+    ensures frames { frames_of frames.new.entries ≡ frames_of frames.old.entries }
+{
+    let bytes = frames.bytes_mut(frame);
+    bytes.fill(byte);
+    frames.mark(frame, Some(mark));
+}
+
+#[test]
+fn a_written_entry_can_be_marked(rt: HostRuntime) -> Result<(), Fail> {
+    let mut frames = Frames::new(rt.alloc(), 2, 4)?;
+    let frame = frames.take_last(20);
+    frames.set_len(frame, 3);
+    write_and_mark(&mut frames, frame, 7, 11);
+    assert_eq!(rt; frames.bytes(frame), [7u8; 3].as_slice());
+    assert_eq!(rt; frames.marked(frame), Some(11));
     Ok(())
 }

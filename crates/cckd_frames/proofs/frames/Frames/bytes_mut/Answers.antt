@@ -1,7 +1,8 @@
 use Rattle.std.proofs.Common.{◌≡◌, ◌*◌, List, Option, IfSome, take, drop, refl, sym, ap, ◌∙◌, subst, arith}
 use Rattle.cckd_frames.specs.Frames.{Entry, Kept, with_entries, with_writes}
 use Rattle.cckd_frames.specs.Store.{over}
-use Rattle.cckd_frames.proofs.Calls.{seen, used_here, entry_here, in_count}
+use Rattle.cckd_frames.proofs.CallerLemmas.{used_written, kept_written}
+use Rattle.cckd_frames.proofs.Calls.{seen, used_here, entry_here, in_count, kept_here}
 use Rattle.cckd_frames.proofs.Writes.{frame_inside, entries_written}
 use Rattle.cckd_frames.proofs.frames.Frames.bytes_mut.Goals as goal
 
@@ -32,5 +33,7 @@ returns c =
         writes_back = tt;
         value = subst (λ (o : Option Entry). IfSome o (λ e. c.part_mut.result.now ≡ e.body)) (sym e)
             (c.part_mut.ensures.value ∙ ap (λ n. take n (drop (x * i.frame_len) i.bytes.bytes)) len);
+        used = λ w. used_written x w x c.args.self.now.entries c.requires;
+        kept = λ w. kept_written x w c.args.self.now (kept_here i.count i.frame_len i.used i.nodes.words i.bytes.bytes c.self.invariant.0 c.args.self.now c.self.view_is);
       },
     )
