@@ -1,7 +1,7 @@
 -- The values of no bytes that stand for a row and for a deed. Assumes `Logic`.
-use mathlib.Core.Path.{◌≡◌, refl, sym, ap, subst, ◌∙◌}
-use Prim.Native.Nat.{ℕ, zero, suc, ◌*◌, ◌<◌, ◌^◌}
-use native.Mathlib.Nat.{zero-mul, suc-mul}
+use mathlib.Core.Path.{◌≡◌, refl, ap, subst, ◌∙◌}
+use Prim.Native.Nat.{ℕ, zero, suc, ◌*◌, ◌<◌, ◌≤◌, ◌^◌}
+use native.Mathlib.Nat.{mul-le-mul_right}
 use native.Mathlib.Omega.{arith}
 use mathlib.Core.List.{List, [], ◌∷◌, ◌++◌}
 use seplogic.Ra.Ura.{Ura}
@@ -13,19 +13,15 @@ use prog.Memory.{size, align, capped}
 use prog.Capped.{capped_is}
 use prog.RawLaws.{size-raw, align-raw}
 use types.Logic.{Logic, sem}
-use types.Kit.{Item, Goal, Seq, ‵, ◌$◌, ◌∵◌, !, qed, move, drop, fpick, fpack, fsplit, fjoin, feq_i, feq_l, rewrite, done}
+use types.Kit.{Item, Goal, Seq, ‵, ◌$◌, ◌∵◌, !, qed, move, drop, fpick, fpack, fsplit, fjoin, feq_i, feq_l, done}
 use denote.RattleType.{RattleType, Valss}
 use denote.Shadow.{makes_shadow}
-use denote.Laws.{Typed, Is, shows}
-use denote.Param.{param, layout}
-use denote.Param.Laws.{Laws, param_laws}
-use denote.Steps.{nothing, peeks}
+use denote.Steps.{nothing}
 use denote.Struct.Struct.{Struct, within}
 use denote.Struct.Owning.{shape}
 use denote.Struct.Declared as Declared
 use denote.Struct.Tuple.{Tuple, tuple_type}
 use Rattle.std.specs.declared.alloc.Allocator.{Ghosts}
-use Rattle.std.proofs.RcSteps.{Good}
 use Rattle.cckd_frames.specs.contracts.block.Row as Row-type
 use Rattle.cckd_frames.specs.contracts.block.Deed as Deed-type
 
@@ -57,29 +53,18 @@ four_of 𝓛 Q R S T w x y z a b c d =
     feq_i ! (List Val) (four_val a b c d ∷ []) (four_val a b c d ∷ []) refl $ fjoin ! $
     fpack ! (Valss (Q ∷ R ∷ S ∷ T ∷ [])) (within (Declared.shape (tuple_type (Q ∷ R ∷ S ∷ T ∷ []))) (w, (x, (y, (z, tt)))) (four_val a b c d ∷ [])) (a ∷ [], (b ∷ [], (c ∷ [], (d ∷ [], tt)))) $ done !
 
--- where the product fits a word, the count is zero or the size fits too
-pub uncapped : (i k : ℕ) → i * k < 2 ^ 64 → i * capped k ≡ i * k
-uncapped zero k h = zero-mul (capped k) ∙ sym (zero-mul k)
-uncapped (suc i) k h = let up = suc-mul i k in ap (λ (j : ℕ). suc i * j) (capped_is k (omega arith))
+-- the bytes of n values, as many as a word counts, are what the code asks for
+pub of_one_word : (k n : ℕ) → n * k < 2 ^ 64 → n * capped k ≡ n * k
+of_one_word k zero below = omega arith
+of_one_word k (suc n) below =
+    let least : 1 * k ≤ suc n * k = mul-le-mul_right k (let one : 1 ≤ suc n = omega arith in one) in
+    ap (λ (size : ℕ). suc n * size) (capped_is k (omega arith))
 
 pub block_size : (τ : Ty) (n : ℕ) → n * size τ < 2 ^ 64 → capped (size (bare (ty_array τ n))) ≡ n * size τ
 block_size τ n fits = ap capped (size-raw (ty_array τ n)) ∙ capped_is (n * size τ) fits
 
 pub block_align : (τ : Ty) (n : ℕ) → capped (align (bare (ty_array τ n))) ≡ capped (align τ)
 block_align τ n = ap capped (align-raw (ty_array τ n))
-
-alone : (τ : Ty) (vs : List Val) → Typed (τ ∷ []) vs → (v : Val) × ((vs ≡ v ∷ []) × Good τ v)
-alone τ [] t = absurd t
-alone τ (v ∷ []) t = (v, (refl, t.0))
-alone τ (v ∷ w ∷ vs) t = absurd t.1
-
-module _ (Y : RattleType) (L : Laws Y) {M : Type 1} {𝓤 : Ura M} {𝓛 : Logic 𝓤} {K : Type 0} {Γ : List (Item 𝓤)} {G : Goal 𝓤 𝓛.H} where
-  -- what is owned of a value is one machine value, of its type
-  pub tells : K → (x : Y.Denot) (vs : List Val) → ((v : Val) → vs ≡ v ∷ [] → Good (layout Y) v → Seq K 𝓛 (‵ (Y.own_val x (v ∷ [])) ∷ Γ) G) → Seq K 𝓛 (‵ (Y.own_val x vs) ∷ Γ) G
-  tells t x vs k =
-      peeks t (param 0 Y) (Is (param 0 Y)) (shows 𝓛 (param 0 Y)) x vs (λ is.
-      let one = alone (layout Y) vs (((param_laws 0 Y L).lawful 𝓛).typed x vs is) in
-      rewrite t 0 (λ (us : List Val). ‵ (Y.own_val x us)) one.1.0 refl $ k one.0 one.1.0 one.1.1)
 
 module _ {M : Type 1} {𝓤 : Ura M} {𝓛 : Logic 𝓤} {K : Type 0} {Γ : List (Item 𝓤)} {G : Goal 𝓤 𝓛.H} where
   -- the value of no bytes that a row is

@@ -17,12 +17,15 @@ pub record Kept : Type 0 where
   pub frame_len : ℕ
   pub entries : List Entry
 
+-- the same frames, with these entries
 abbrev pub with_entries : Kept → List Entry → Kept
 with_entries k es = record { count = k.count; frame_len = k.frame_len; entries = es }
 
+-- the keys of all entries, in their order
 abbrev pub keys : List Entry → List ℕ
 keys = map (λ e. e.key)
 
+-- the frames of all entries, in their order
 abbrev pub frames : List Entry → List ℕ
 frames = map (λ e. e.frame)
 
@@ -62,6 +65,7 @@ abbrev pub changed : ℕ → (Entry → Entry) → List Entry → List Entry
 changed frame change [] = []
 changed frame change (e ∷ es) = (if e.frame == frame then change e else e) ∷ changed frame change es
 
+-- the entries with this mark on the one in this frame, or with none
 abbrev pub with_mark : ℕ → Option ℕ → List Entry → List Entry
 with_mark frame mark = changed frame (λ e. record { frame = e.frame; key = e.key; mark = mark; body = e.body })
 
@@ -77,6 +81,7 @@ refilled xs ys = take (length xs) (ys ++ drop (length ys) xs)
 abbrev pub with_writes : ℕ → List ℕ → List Entry → List Entry
 with_writes frame body = changed frame (λ e. record { frame = e.frame; key = e.key; mark = e.mark; body = refilled e.body body })
 
+-- the entries with n bytes in the one in this frame
 abbrev pub with_len : ℕ → ℕ → List Entry → List Entry
 with_len frame n = changed frame (λ e. record { frame = e.frame; key = e.key; mark = e.mark; body = resized n e.body })
 

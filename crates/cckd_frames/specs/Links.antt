@@ -5,12 +5,14 @@ use Rattle.cckd_frames.specs.declared.node.NodePtr.{NodePtr}
 use Rattle.cckd_frames.specs.declared.node.Way.{Way}
 use Rattle.cckd_frames.specs.declared.node.Way.TheVariants.{Older, Newer, After, Before}
 
+-- where the link of this kind points
 abbrev pub link_of : Way → Node → NodePtr
 link_of Older n = n.older
 link_of Newer n = n.newer
 link_of After n = n.after
 link_of Before n = n.before
 
+-- the node with this link of this kind
 abbrev pub with_link : Way → NodePtr → Node → Node
 with_link Older to n = record { older = to; newer = n.newer; after = n.after; before = n.before; key = n.key; members = n.members; len = n.len; mark = n.mark; number = n.number }
 with_link Newer to n = record { older = n.older; newer = to; after = n.after; before = n.before; key = n.key; members = n.members; len = n.len; mark = n.mark; number = n.number }

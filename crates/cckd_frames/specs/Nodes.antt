@@ -49,11 +49,12 @@ unlinked c d x ws = with_word (with_word ws c (word ws d x) (word ws c x)) d (wo
 abbrev pub linked : ℕ → ℕ → ℕ → ℕ → List ℕ → List ℕ
 linked c d a x ws = with_word (with_word (with_word (with_word ws d x a) c x (word ws c a)) d (word ws c a) x) c a x
 
--- a mark in two words: whether there is one, and which
+-- 1 where there is a mark, or else 0
 abbrev pub flag_of : Option ℕ → ℕ
 flag_of None = 0
 flag_of (Some m) = 1
 
+-- the mark itself, or 0 for none
 abbrev pub mark_word : Option ℕ → ℕ
 mark_word None = 0
 mark_word (Some m) = m

@@ -36,6 +36,7 @@ node_words first n =
     place_of 56 first n.older.ptr ∷ place_of 56 first n.newer.ptr ∷ place_of 56 first n.after.ptr ∷ place_of 56 first n.before.ptr
     ∷ n.key ∷ n.members ∷ n.len ∷ flag_of n.mark ∷ mark_word n.mark ∷ []
 
+-- the words of all nodes, one node after another
 abbrev pub words_of : Ptr → List Node → List ℕ
 words_of first [] = []
 words_of first (n ∷ ns) = node_words first n ++ words_of first ns

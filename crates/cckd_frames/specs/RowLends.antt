@@ -22,8 +22,10 @@ with_item r i w = record { mark = r.mark; at = r.at; room = r.room; items = slic
 abbrev pub with_bytes : Row ℕ → List ℕ → Row ℕ
 with_bytes r ws = record { mark = r.mark; at = r.at; room = r.room; items = refilled r.items ws; within = subst (λ (k : ℕ). k ≤ r.room) (length_refill (length r.items) r.items ws refl) r.within }
 
+-- the row ends with the value that was written as its i-th
 abbrev pub lends_item : (R : RattleType) → MutBor (Row R.Denot) → ℕ → MutBor R.Denot → Fml
 lends_item R v i r = follows (the_row R) R v.ghost_name r.ghost_name (with_item v.now i)
 
+-- the row ends with the bytes that were written in the place of the n from `at` on
 abbrev pub lends_part : MutBor (Row ℕ) → ℕ → ℕ → MutBor (List ℕ) → Fml
 lends_part v at n r = follows (the_row u8) (Array u8 0) v.ghost_name r.ghost_name (λ w. with_bytes v.now (over at n v.now.items w))

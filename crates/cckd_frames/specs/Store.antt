@@ -13,5 +13,6 @@ pub record Stored : Type 0 where
 abbrev pub over : ℕ → ℕ → List ℕ → List ℕ → List ℕ
 over at n bs xs = take at bs ++ (refilled (take n (drop at bs)) xs ++ drop n (drop at bs))
 
+-- the bytes with others in the place of the n from `at` on, where they were
 abbrev pub with_part : ℕ → ℕ → Stored → List ℕ → Stored
 with_part at n s xs = record { at = s.at; room = s.room; bytes = over at n s.bytes xs }

@@ -16,7 +16,7 @@ bucket_of count key = count + key % count
 abbrev pub IsOrder : ℕ → ℕ → List ℕ → (ℕ → Type 0) → Type 0
 IsOrder count n ws P = (xs : List ℕ) × IsRing 0 1 ws (2 * count) P xs × (length xs ≡ n)
 
--- those of them whose keys fall into the bucket
+-- a frame of which P holds, and whose key falls into the bucket
 abbrev pub IsMember : ℕ → List ℕ → (ℕ → Type 0) → ℕ → ℕ → Type 0
 IsMember count ws P bucket x = P x × (bucket_of count (word ws 4 x) ≡ bucket)
 
@@ -40,10 +40,11 @@ nth_after ws c a (suc k) = nth_after ws c (word ws c a) k
 abbrev pub brought : ℕ → ℕ → List ℕ → List ℕ
 brought count x ws = linked 0 1 (2 * count) x (unlinked 0 1 x ws)
 
--- one member less, and one more
+-- bucket b has one member less
 abbrev pub one_less : ℕ → List ℕ → List ℕ
 one_less b ws = with_word ws 5 b (word ws 5 b - 1)
 
+-- bucket b has one member more
 abbrev pub one_more : ℕ → List ℕ → List ℕ
 one_more b ws = with_word ws 5 b (word ws 5 b + 1)
 
@@ -55,10 +56,11 @@ given_up count x ws = one_less (bucket_of count (word ws 4 x)) (unlinked 2 3 x (
 abbrev pub marked : ℕ → Option ℕ → List ℕ → List ℕ
 marked x mark ws = with_word (with_word ws 7 x (flag_of mark)) 8 x (mark_word mark)
 
--- frame x takes a new entry with this key
+-- frame x has this key, no bytes and no mark
 abbrev pub blanked : ℕ → ℕ → List ℕ → List ℕ
 blanked x key ws = marked x None (with_word (with_word ws 4 x key) 6 x 0)
 
+-- frame x takes a new entry with this key, which comes first
 abbrev pub taken : ℕ → ℕ → ℕ → List ℕ → List ℕ
 taken count x key ws = one_more (bucket_of count key) (linked 2 3 (bucket_of count key) x (linked 0 1 (2 * count) x (blanked x key ws)))
 
@@ -79,6 +81,7 @@ pub record IsEmptied (count : ℕ) (ws vs : List ℕ) : Type 0 where
   pub members : (b : ℕ) → count ≤ b → b < 2 * count → word vs 5 b ≡ 0
   pub lengths : (x : ℕ) → word vs 6 x ≡ word ws 6 x
 
+-- the mark that two words stand for: whether there is one, and which
 abbrev pub mark_of : ℕ → ℕ → Option ℕ
 mark_of zero mark = None
 mark_of (suc n) mark = Some mark
@@ -87,6 +90,7 @@ mark_of (suc n) mark = Some mark
 abbrev pub entry_at : ℕ → List ℕ → List ℕ → ℕ → Entry
 entry_at frame_len ws bs x = record { frame = x; key = word ws 4 x; mark = mark_of (word ws 7 x) (word ws 8 x); body = take (word ws 6 x) (drop (x * frame_len) bs) }
 
+-- what lies in the frames in use, most recent first
 abbrev pub entries_of : ℕ → ℕ → ℕ → List ℕ → List ℕ → List Entry
 entries_of count frame_len used ws bs = map (entry_at frame_len ws bs) (trail ws 0 (2 * count) used)
 

@@ -59,7 +59,7 @@ use Rattle.cckd_frames.specs.Ownership.{row_owns}
 use Rattle.cckd_frames.specs.contracts.block.Row as Row-type
 use Rattle.cckd_frames.specs.contracts.block.Deed as Deed-type
 use Rattle.cckd_frames.proofs.Cutting.{bytes_of, row_new, cut, Two}
-use Rattle.cckd_frames.proofs.Marks.{mark, row_mark, deed_mark, RowMark, DeedMark, four_val, four_of, uncapped, block_size, block_align}
+use Rattle.cckd_frames.proofs.Marks.{mark, row_mark, deed_mark, RowMark, DeedMark, four_val, four_of, of_one_word, block_size, block_align}
 use Rattle.cckd_frames.specs.contracts.block.allocate as F
 use Rattle.cckd_frames.specs.contracts.block.allocate.Key.{name as #self}
 use Rattle.cckd_frames.proofs.block.allocate.Statement as stated
@@ -142,7 +142,7 @@ module _ (E : El) {M : Type 1} {𝓤 : Ura M} (𝓛 : Logic 𝓤) (at_mem : Memo
       let block : Ty = bare (ty_array (elτ E) m) in
       let y : (Takes (Z E) 𝓛 at_mem run).Ghost = at_takes (Z E) 𝓛 at_mem run κ q (rb, ro) a (m * s) al block in
       sets ! (bin ! (get ! refl) (get ! refl) (record { fits = sum })) refl (tt, record { fits = sum }) $
-      sets ! (is ! (bin ! (get ! refl) (size_word !) (record { fits = subst (λ (j : ℕ). j < 2 ^ 64) (sym (uncapped m s bytes)) bytes })) (ap (vint w64) (uncapped m s bytes))) refl (tt, record { fits = bytes }) $
+      sets ! (is ! (bin ! (get ! refl) (size_word !) (record { fits = subst (λ (j : ℕ). j < 2 ^ 64) (sym (of_one_word s m bytes)) bytes })) (ap (vint w64) (of_one_word s m bytes))) refl (tt, record { fits = bytes }) $
       use2 𝓛 (raw ((Takes (Z E) 𝓛 at_mem run).pre y)) (Takes-goes (Z E) 𝓛 at_mem run κ q (rb, ro) a (Incl-trans short within) (m * s) al block (block_size (elτ E) m bytes) (block_align (elτ E) m) bytes (capped_fits (align (elτ E)))) $
       calls_at ! fm (Takes (Z E) 𝓛 at_mem run) callee y (and_then ! (get ! refl) (and_then ! (get ! refl) (and_then ! (align_word !) (no_more !)))) (λ v.
       use1 𝓛 (later (raw (Answered (Z E) 𝓛 at_mem run a block v) ⊛ ‵ (flft κ q))) (Takes-gives (Z E) 𝓛 at_mem run κ q (rb, ro) a (m * s) al block v) $ await ! tt $ split ! $

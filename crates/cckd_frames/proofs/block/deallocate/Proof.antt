@@ -49,7 +49,7 @@ use Rattle.cckd_frames.specs.Ownership.{array_type, row_owns, deed_owns}
 use Rattle.cckd_frames.specs.contracts.block.Row as Row-type
 use Rattle.cckd_frames.specs.contracts.block.Deed as Deed-type
 use Rattle.cckd_frames.proofs.Cutting.{bytes_of, row_over, bytes_over, Two, All}
-use Rattle.cckd_frames.proofs.Marks.{mark, row_had, deed_had, uncapped, block_size, block_align}
+use Rattle.cckd_frames.proofs.Marks.{mark, row_had, deed_had, of_one_word, block_size, block_align}
 use Rattle.cckd_frames.specs.contracts.block.deallocate as F
 use Rattle.cckd_frames.specs.contracts.block.deallocate.Key.{name as #self}
 use Rattle.cckd_frames.proofs.block.deallocate.Statement as stated
@@ -141,7 +141,7 @@ module _ (E : El) {M : Type 1} {𝓤 : Ura M} (𝓛 : Logic 𝓤) (at_mem : Memo
       take_at ! 2 $ rewrite ! 0 (λ (r : Ptr). ‵ (fat full_share ty_ptr (l 2) 0 (ptr_val r))) e refl $ give_at ! 2 $ first ! $ blocks ! $
       sets ! (of_opd ! (get ! refl)) refl (tt, tt) $
       sets ! (bin ! (get ! refl) (get ! refl) (record { fits = sum })) refl (tt, record { fits = sum }) $
-      sets ! (is ! (bin ! (get ! refl) (size_word !) (record { fits = subst (λ (j : ℕ). j < 2 ^ 64) (sym (uncapped m s size)) size })) (ap (vint w64) (uncapped m s size))) refl (tt, record { fits = size }) $
+      sets ! (is ! (bin ! (get ! refl) (size_word !) (record { fits = subst (λ (j : ℕ). j < 2 ^ 64) (sym (of_one_word s m size)) size })) (ap (vint w64) (of_one_word s m size))) refl (tt, record { fits = size }) $
       group ! 4 $ use1 𝓛 (raw ((Gives (Z E) 𝓛 at_mem run).pre y)) (Gives-goes (Z E) 𝓛 at_mem run κ q (rb, ro) a (Incl-trans short within) b o (m * s) al block (block_size (elτ E) m size) (block_align (elτ E) m) size (capped_fits (align (elτ E)))) $
       calls_at_last ! fm (Gives (Z E) 𝓛 at_mem run) callee y (and_then ! (get ! refl) (and_then ! (get ! refl) (and_then ! (get ! refl) (and_then ! (align_word !) (no_more !))))) (λ v.
       use1 𝓛 (later (given (v ≡ vunit) (‵ (flft κ q)))) (Gives-Gives (Z E) 𝓛 at_mem run κ q (rb, ro) a b o (m * s) al block v) $ await ! tt $ learn ! (λ done_with.

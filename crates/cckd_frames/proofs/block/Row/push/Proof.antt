@@ -7,7 +7,7 @@ use mathlib.Core.List.{List, [], ◌∷◌, ◌++◌}
 use lib.ListN.{length, length-append}
 use seplogic.Ra.Ura.{Ura}
 use base.Fraction.{full_share}
-use mir.Syntax.{Fn, named, ty_ptr, ty_array}
+use mir.Syntax.{Fn, given, named, ty_ptr, ty_array}
 use mir.MapTy.{inst_fn}
 use mir.Val.{Val, vptr, vunit}
 use base.Logic.{SProp, ent, never, id⊢}
@@ -37,6 +37,7 @@ use denote.Triple.Entry.{on_entry}
 use denote.Triple.Spec.{Meets, triple_of}
 use denote.Triple.Table.{entered, run_framed}
 use denote.Triple.Walked.{says, needs, Stays, stay_dropped, stay_ref, walk_of, ends_at, Goes-dropped, Goes-ref, walk_Meets}
+use Rattle.std.proofs.alloc.Calls.{Al, handle_tells}
 use Rattle.std.proofs.RawLayout.{as_raw, as_written}
 use Rattle.std.proofs.RcSteps.{Good}
 use Rattle.std.proofs.VecSteps.El.{El, no_al, args₁, el_x, elτ, R, sz}
@@ -44,7 +45,6 @@ use Rattle.std.proofs.VecSteps.Rows.{el_in, spare, snoc}
 use Rattle.std.proofs.VecSteps.Shapes.{after}
 use Rattle.cckd_frames.specs.Ownership.{array_type, row_owns}
 use Rattle.cckd_frames.specs.contracts.block.Row as Row-type
-use Rattle.cckd_frames.proofs.Marks.{tells}
 use Rattle.cckd_frames.specs.contracts.block.Row.push.Key.{name as #self}
 use Rattle.cckd_frames.proofs.block.Row.push.Statement as stated
 use Rattle.cckd_frames.proofs.block.Row.push.Code as code
@@ -55,6 +55,10 @@ module _ (E : El) where
 
   abbrev Rw : RattleType
   Rw = Row-type.the_row (R E)
+
+  -- the value as one that no allocator's token tells of
+  abbrev handle : Al
+  handle = record { row = E.row; laws = E.laws; g = record { dealloc_token = λ a τ p. ftrue }; d = given 0; drops = given 0 }
 
   abbrev ended : Ended
   ended = record { signature = record { lifetimes = 1; outlives = []; params = RefMutOf (0 ∷ []) tt (plain (λ _. Rw)) (λ _. tt) ∷ plain (λ _. RawPtr) ∷ plain (λ _. R E) ∷ []; result = plain (λ _. unit) }; kept = (yes, (yes, (no, tt))) }
@@ -136,7 +140,7 @@ module _ (E : El) {M : Type 1} {𝓤 : Ura M} (𝓛 : Logic 𝓤) (C : Calls �
   entry asked =
       qed 𝓛 ((‵ (flft κ q) ⊛ ‵ ftrue) ∷ ‵ (owns (MutRef (named 0) κ (Rw E) ∷ RawPtr ∷ R E ∷ []) (self, (p, (x, tt))) (us0, (us1, (us2, tt)))) ∷ []) ∵
       split ! $ move ! (2 ∷ []) $ fsplit ! $ fsplit3 ! $ feq_l ! (λ e0.
-      move ! (2 ∷ []) $ fsplit ! $ feq_l ! (λ e1. fsplit ! $ tells E.row E.laws ! x us2 (λ v e2 good. keep ! (2 ∷ 3 ∷ 4 ∷ 0 ∷ []) $
+      move ! (2 ∷ []) $ fsplit ! $ feq_l ! (λ e1. fsplit ! $ handle_tells (handle E) ! x us2 (λ v e2 good. keep ! (2 ∷ 3 ∷ 4 ∷ 0 ∷ []) $
       by ! (subst (λ (ws : List Val × List Val × List Val). ent 𝓤 (⋆ 𝓛 (Had v)) (WpFn 𝓤 H C Λ (fn' E) (ws.0 ++ (ws.1 ++ (ws.2 ++ []))) Post)) (λ j. (sym e0 j, sym e1 j, sym e2 j)) (walk e0 asked v good)))))
 
 meets : (E : El) {M : Type 1} {𝓤 : Ura M} (𝓛 : Logic 𝓤) (𝓣 : Tables 𝓤 𝓛.H)
