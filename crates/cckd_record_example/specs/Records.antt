@@ -1,7 +1,9 @@
 -- A file whose first eight bytes point to one record.
 use Rattle.std.specs.Prelude.{ℕ, ◌≡◌, ◌⊎◌, ◌+◌, ◌≤◌, List, length, take}
 use Rattle.std.specs.Int.{w64, to_le_bytes}
+use Rattle.cckd_shelf.specs.Faults.{Rose}
 use Rattle.cckd_shelf.specs.Files.{bytes_at}
+use Rattle.cckd_shelf.specs.declared.fault.Faults.{Faults}
 
 -- a record lies behind the entry, in the file, and has this value
 pub record Has (place : ℕ) (value file : List ℕ) : Type 0 where
@@ -26,6 +28,10 @@ ShowsEither old_place old place value file = Shows old_place old file ⊎ Shows 
 -- it reads as one of three values
 abbrev pub ShowsAny : ℕ → List ℕ → ℕ → List ℕ → ℕ → List ℕ → List ℕ → Type 0
 ShowsAny p old a first b second file = Shows p old file ⊎ (Shows a first file ⊎ Shows b second file)
+
+-- the count of failed writes rose, or that of failed syncs
+abbrev pub HasCause : Faults → Faults → Type 0
+HasCause before after = Rose before.writes after.writes ⊎ Rose before.syncs after.syncs
 
 -- two records don't share a byte
 abbrev pub AreApart : ℕ → ℕ → Type 0

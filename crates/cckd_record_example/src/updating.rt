@@ -1,7 +1,8 @@
-ghost use Rattle.std.specs.Prelude.{◌≡◌, ℕ, ◌+◌, ◌^◌, ◌<◌, ◌≤◌, List, length, OnOk};
+ghost use Rattle.std.specs.Prelude.{◌≡◌, ℕ, ◌+◌, ◌^◌, ◌<◌, ◌≤◌, List, length, OnOk, OnErr};
 ghost use Rattle.std.specs.Int.{w64, to_le_bytes};
+ghost use Rattle.cckd_shelf.specs.Faults.{NoneFell};
 ghost use Rattle.cckd_shelf.specs.Outcomes.{AtEach, EachOutcome};
-ghost use Rattle.cckd_record_example.specs.Records.{Shows, ShowsBeside, ShowsEither, ShowsAny, AreApart};
+ghost use Rattle.cckd_record_example.specs.Records.{Shows, ShowsBeside, ShowsEither, ShowsAny, AreApart, HasCause};
 
 use cckd_shelf::{Failed, Shelf, Slot};
 
@@ -17,6 +18,10 @@ pub fn update<S: Shelf>(shelf: &mut S, slot: Slot, place: u64, value: &[u8]) -> 
     ensures done { (p : ℕ) (old : List ℕ) → S.tells → AreApart p place
         → EachOutcome slot (Shows p old) (S.world shelf.old).events
         → OnOk result (EachOutcome slot (Shows place value.now) (S.world shelf.new).events) }
+
+    // It fails only where a write or a sync did.
+    ensures cause { OnErr result (HasCause (S.faults shelf.old) (S.faults shelf.new)) }
+    ensures fell { NoneFell (S.faults shelf.old) (S.faults shelf.new) }
 {
     put_record(shelf, slot, place, value)?;
     point_to(shelf, slot, place)
@@ -45,6 +50,10 @@ pub fn update_twice<S: Shelf>(
     ensures done { (p : ℕ) (old : List ℕ) → S.tells → AreApart p first_place
         → EachOutcome slot (Shows p old) (S.world shelf.old).events
         → OnOk result (EachOutcome slot (Shows second_place second.now) (S.world shelf.new).events) }
+
+    // It fails only where a write or a sync did.
+    ensures cause { OnErr result (HasCause (S.faults shelf.old) (S.faults shelf.new)) }
+    ensures fell { NoneFell (S.faults shelf.old) (S.faults shelf.new) }
 {
     update(shelf, slot, first_place, first)?;
     update(shelf, slot, second_place, second)
@@ -61,6 +70,8 @@ fn put_record<S: Shelf>(shelf: &mut S, slot: Slot, place: u64, value: &[u8]) -> 
     ensures placed { (p : ℕ) (old : List ℕ) → S.tells → AreApart p place
         → EachOutcome slot (Shows p old) (S.world shelf.old).events
         → OnOk result (EachOutcome slot (ShowsBeside p old place value.now) (S.world shelf.new).events) }
+    ensures cause { OnErr result (HasCause (S.faults shelf.old) (S.faults shelf.new)) }
+    ensures fell { NoneFell (S.faults shelf.old) (S.faults shelf.new) }
 {
     let Ok(()) = shelf.write(slot, place, value) else {
         return Err(Failed);
@@ -77,6 +88,8 @@ fn point_to<S: Shelf>(shelf: &mut S, slot: Slot, place: u64) -> Result<(), Faile
     ensures done { (p : ℕ) (old value : List ℕ) → S.tells
         → EachOutcome slot (ShowsBeside p old place value) (S.world shelf.old).events
         → OnOk result (EachOutcome slot (Shows place value) (S.world shelf.new).events) }
+    ensures cause { OnErr result (HasCause (S.faults shelf.old) (S.faults shelf.new)) }
+    ensures fell { NoneFell (S.faults shelf.old) (S.faults shelf.new) }
 {
     write_entry(shelf, slot, place, &place.to_le_bytes())
 }
@@ -89,6 +102,8 @@ fn write_entry<S: Shelf>(shelf: &mut S, slot: Slot, place: u64, entry: &[u8]) ->
     ensures done { (p : ℕ) (old value : List ℕ) → S.tells
         → EachOutcome slot (ShowsBeside p old place value) (S.world shelf.old).events
         → OnOk result (EachOutcome slot (Shows place value) (S.world shelf.new).events) }
+    ensures cause { OnErr result (HasCause (S.faults shelf.old) (S.faults shelf.new)) }
+    ensures fell { NoneFell (S.faults shelf.old) (S.faults shelf.new) }
 {
     let Ok(()) = shelf.write(slot, 0, entry) else {
         return Err(Failed);
