@@ -1,6 +1,42 @@
 -- The words of the nodes, and how they are linked. Only this crate's own functions speak of them.
 use Rattle.std.specs.Prelude.{◌≡◌, ℕ, zero, suc, ◌+◌, ◌*◌, ◌⊎◌, ◌==◌, if◌then◌else◌, List, [], ◌∷◌, get_or, set, Option, None, Some}
 
+-- the column of a node's words in which the next older node stands
+abbrev pub older_column : ℕ
+older_column = 0
+
+-- the column of the next newer node
+abbrev pub newer_column : ℕ
+newer_column = 1
+
+-- the column of the next node of the bucket
+abbrev pub after_column : ℕ
+after_column = 2
+
+-- the column of the node before it in the bucket
+abbrev pub before_column : ℕ
+before_column = 3
+
+-- the column of a frame's key
+abbrev pub key_column : ℕ
+key_column = 4
+
+-- the column of how many members a bucket has
+abbrev pub members_column : ℕ
+members_column = 5
+
+-- the column of how many bytes an entry has
+abbrev pub length_column : ℕ
+length_column = 6
+
+-- the column of whether it has a mark
+abbrev pub flag_column : ℕ
+flag_column = 7
+
+-- the column of the mark itself
+abbrev pub mark_column : ℕ
+mark_column = 8
+
 -- word c of node x
 abbrev pub word : List ℕ → ℕ → ℕ → ℕ
 word ws c x = get_or ws (9 * x + c) 0

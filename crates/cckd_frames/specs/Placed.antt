@@ -8,7 +8,7 @@ use Rattle.cckd_frames.specs.declared.node.Way.{Way}
 use Rattle.cckd_frames.specs.declared.node.Way.TheVariants.{Older, Newer, After, Before}
 use Rattle.cckd_frames.specs.Items.{place_of}
 use Rattle.cckd_frames.specs.Links.{link_of, fresh}
-use Rattle.cckd_frames.specs.Nodes.{flag_of, mark_word}
+use Rattle.cckd_frames.specs.Nodes.{older_column, newer_column, after_column, before_column, flag_of, mark_word}
 
 -- where the nodes begin, and the words of all of them
 pub record Placed : Type 0 where
@@ -25,10 +25,10 @@ IsNode t p = (p ≡ t.first +ₚ number_of t p * 56) × (9 * number_of t p < len
 
 -- the word in which a link stands
 abbrev pub column_of : Way → ℕ
-column_of Older = 0
-column_of Newer = 1
-column_of After = 2
-column_of Before = 3
+column_of Older = older_column
+column_of Newer = newer_column
+column_of After = after_column
+column_of Before = before_column
 
 -- the nine words of a node, where a link is the number of the node that it points to
 abbrev pub node_words : Ptr → Node → List ℕ

@@ -22,7 +22,7 @@ impl Model for Nodes {
 }
 
 impl Nodes {
-    ghost use Rattle.cckd_frames.specs.Nodes.{word, with_word, flag_of, mark_word};
+    ghost use Rattle.cckd_frames.specs.Nodes.{key_column, members_column, length_column, flag_column, mark_column, word, with_word, flag_of, mark_word};
     ghost use Rattle.cckd_frames.specs.Table.{mark_of, marked};
     ghost use Rattle.cckd_frames.specs.Placed.{IsNode, number_of, column_of};
 
@@ -85,7 +85,7 @@ impl Nodes {
 
     pub(crate) fn key(&self, at: NodePtr) -> u32
         requires { IsNode self.now at.ptr }
-        ensures { result ≡ word self.now.words 4 (number_of self.now at.ptr) }
+        ensures { result ≡ word self.now.words key_column (number_of self.now at.ptr) }
     {
         self.row.item(at.ptr).key
     }
@@ -93,7 +93,7 @@ impl Nodes {
     pub(crate) fn set_key(&mut self, at: NodePtr, key: u32)
         requires { IsNode self.old at.ptr }
         ensures first { self.new.first ≡ self.old.first }
-        ensures words { self.new.words ≡ with_word self.old.words 4 (number_of self.old at.ptr) key }
+        ensures words { self.new.words ≡ with_word self.old.words key_column (number_of self.old at.ptr) key }
     {
         self.row.item_mut(at.ptr).key = key;
     }
@@ -101,7 +101,7 @@ impl Nodes {
     /// How many nodes a bucket's ring links.
     pub(crate) fn members(&self, at: NodePtr) -> u32
         requires { IsNode self.now at.ptr }
-        ensures { result ≡ word self.now.words 5 (number_of self.now at.ptr) }
+        ensures { result ≡ word self.now.words members_column (number_of self.now at.ptr) }
     {
         self.row.item(at.ptr).members
     }
@@ -109,14 +109,14 @@ impl Nodes {
     pub(crate) fn set_members(&mut self, at: NodePtr, members: u32)
         requires { IsNode self.old at.ptr }
         ensures first { self.new.first ≡ self.old.first }
-        ensures words { self.new.words ≡ with_word self.old.words 5 (number_of self.old at.ptr) members }
+        ensures words { self.new.words ≡ with_word self.old.words members_column (number_of self.old at.ptr) members }
     {
         self.row.item_mut(at.ptr).members = members;
     }
 
     pub(crate) fn len(&self, at: NodePtr) -> u32
         requires { IsNode self.now at.ptr }
-        ensures { result ≡ word self.now.words 6 (number_of self.now at.ptr) }
+        ensures { result ≡ word self.now.words length_column (number_of self.now at.ptr) }
     {
         self.row.item(at.ptr).len
     }
@@ -124,14 +124,14 @@ impl Nodes {
     pub(crate) fn set_len(&mut self, at: NodePtr, len: u32)
         requires { IsNode self.old at.ptr }
         ensures first { self.new.first ≡ self.old.first }
-        ensures words { self.new.words ≡ with_word self.old.words 6 (number_of self.old at.ptr) len }
+        ensures words { self.new.words ≡ with_word self.old.words length_column (number_of self.old at.ptr) len }
     {
         self.row.item_mut(at.ptr).len = len;
     }
 
     pub(crate) fn mark(&self, at: NodePtr) -> Option<u32>
         requires { IsNode self.now at.ptr }
-        ensures { result ≡ mark_of (word self.now.words 7 (number_of self.now at.ptr)) (word self.now.words 8 (number_of self.now at.ptr)) }
+        ensures { result ≡ mark_of (word self.now.words flag_column (number_of self.now at.ptr)) (word self.now.words mark_column (number_of self.now at.ptr)) }
     {
         self.row.item(at.ptr).mark
     }

@@ -1,9 +1,10 @@
 //! The rings: the frames in use are linked from the head, most recent first, and those whose keys fall
 //! into one bucket from that bucket. The nodes are numbered: the frames, as many buckets, and the head.
 ghost use Rattle.std.specs.Prelude.{◌≡◌, ◌≢◌, ◌+◌, ◌-◌, ◌*◌, ◌<◌, ◌≤◌, ◌==◌, if◌then◌else◌, length, IfSome, option_map};
-ghost use Rattle.cckd_frames.specs.Nodes.{word as word_of, with_word, linked, unlinked, trail};
+ghost use Rattle.cckd_frames.specs.Nodes.{older_column, newer_column, after_column, before_column, key_column, members_column, length_column, flag_column, mark_column};
+ghost use Rattle.cckd_frames.specs.Nodes.{word as word_of, with_word, linked, unlinked};
 ghost use Rattle.cckd_frames.specs.Placed.{IsNode, number_of, column_of};
-ghost use Rattle.cckd_frames.specs.Table.{IsTable, bucket_of as bucket_node, IsEmptied, node_with, nth_after, brought, given_up, blanked, taken, chosen, cleared, mark_of, marked};
+ghost use Rattle.cckd_frames.specs.Table.{IsTable, bucket_of as bucket_node, IsEmptied, members_of, node_with, nth_after, brought, given_up, blanked, taken, chosen, cleared, mark_of, marked};
 
 use crate::node::{NodePtr, Way};
 use crate::nodes::Nodes;
@@ -45,7 +46,7 @@ fn bucket_of(count: u32, key: u32) -> u32
 fn search(nodes: &Nodes, bucket: NodePtr, key: u32) -> Option<NodePtr>
     requires { IsNode nodes.now bucket.ptr }
     ensures node { IfSome result (λ n. IsNode nodes.now n.ptr) }
-    ensures found { option_map (λ n. number_of nodes.now n.ptr) result ≡ node_with nodes.now.words key (trail nodes.now.words 2 (number_of nodes.now bucket.ptr) (word_of nodes.now.words 5 (number_of nodes.now bucket.ptr))) }
+    ensures found { option_map (λ n. number_of nodes.now n.ptr) result ≡ node_with nodes.now.words key (members_of (number_of nodes.now bucket.ptr) nodes.now.words) }
 {
     let mut node = bucket;
     let mut left = nodes.members(bucket);
@@ -63,7 +64,7 @@ fn search(nodes: &Nodes, bucket: NodePtr, key: u32) -> Option<NodePtr>
 pub(crate) fn frame_with(nodes: &Nodes, count: u32, key: u32) -> Option<u32>
     requires count { (1 ≤ count) × (count ≤ 4096) }
     requires table { IsTable count nodes.now.words }
-    ensures { result ≡ node_with nodes.now.words key (trail nodes.now.words 2 (bucket_node count key) (word_of nodes.now.words 5 (bucket_node count key))) }
+    ensures { result ≡ node_with nodes.now.words key (members_of (bucket_node count key) nodes.now.words) }
 {
     let bucket = nodes.at(bucket_of(count, key));
     let Some(node) = search(nodes, bucket, key) else {
@@ -77,7 +78,7 @@ pub(crate) fn frame_at(nodes: &Nodes, count: u32, place: u32) -> u32
     requires count { count ≤ 4096 }
     requires table { IsTable count nodes.now.words }
     ensures within { result ≤ 2 * count }
-    ensures value { result ≡ nth_after nodes.now.words 0 (2 * count) (place + 1) }
+    ensures value { result ≡ nth_after nodes.now.words older_column (2 * count) (place + 1) }
 {
     let mut node = nodes.link(nodes.at(2 * count), Way::Older);
     let mut left = place;
@@ -108,7 +109,7 @@ fn give_up(nodes: &mut Nodes, count: u32, node: NodePtr)
     requires count { (1 ≤ count) × (count ≤ 4096) }
     requires table { IsTable count nodes.old.words }
     requires node { IsNode nodes.old node.ptr }
-    requires member { 1 ≤ word_of nodes.old.words 5 (bucket_node count (word_of nodes.old.words 4 (number_of nodes.old node.ptr))) }
+    requires member { 1 ≤ word_of nodes.old.words members_column (bucket_node count (word_of nodes.old.words key_column (number_of nodes.old node.ptr))) }
     ensures first { nodes.new.first ≡ nodes.old.first }
     ensures table { IsTable count nodes.new.words }
     ensures given_up { nodes.new.words ≡ given_up count (number_of nodes.old node.ptr) nodes.old.words }
@@ -125,7 +126,7 @@ pub(crate) fn enter(nodes: &mut Nodes, count: u32, frame: u32, key: u32)
     requires count { (1 ≤ count) × (count ≤ 4096) }
     requires table { IsTable count nodes.old.words }
     requires frame { frame < count }
-    requires members { word_of nodes.old.words 5 (bucket_node count key) ≤ count }
+    requires members { word_of nodes.old.words members_column (bucket_node count key) ≤ count }
     ensures first { nodes.new.first ≡ nodes.old.first }
     ensures table { IsTable count nodes.new.words }
     ensures taken { nodes.new.words ≡ taken count frame key nodes.old.words }
@@ -154,7 +155,7 @@ fn blank(nodes: &mut Nodes, node: NodePtr, key: u32)
 pub(crate) fn choose(nodes: &mut Nodes, count: u32, used: u32) -> u32
     requires count { (1 ≤ count) × (count ≤ 4096) × (used ≤ count) }
     requires table { IsTable count nodes.old.words }
-    requires member { used ≡ count → 1 ≤ word_of nodes.old.words 5 (bucket_node count (word_of nodes.old.words 4 (word_of nodes.old.words 1 (2 * count)))) }
+    requires member { used ≡ count → 1 ≤ word_of nodes.old.words members_column (bucket_node count (word_of nodes.old.words key_column (word_of nodes.old.words newer_column (2 * count)))) }
     ensures first { nodes.new.first ≡ nodes.old.first }
     ensures table { IsTable count nodes.new.words }
     ensures chosen { result ≡ chosen count used nodes.old.words }
@@ -174,7 +175,9 @@ pub(crate) fn choose(nodes: &mut Nodes, count: u32, used: u32) -> u32
 fn loop_back(nodes: &mut Nodes, next: Way, prev: Way, node: NodePtr)
     requires { IsNode nodes.old node.ptr }
     ensures first { nodes.new.first ≡ nodes.old.first }
-    ensures words { nodes.new.words ≡ with_word (with_word nodes.old.words (column_of next) (number_of nodes.old node.ptr) (number_of nodes.old node.ptr)) (column_of prev) (number_of nodes.old node.ptr) (number_of nodes.old node.ptr) }
+    ensures words { nodes.new.words
+        ≡ with_word (with_word nodes.old.words (column_of next) (number_of nodes.old node.ptr) (number_of nodes.old node.ptr))
+        (column_of prev) (number_of nodes.old node.ptr) (number_of nodes.old node.ptr) }
 {
     nodes.set_link(node, next, node);
     nodes.set_link(node, prev, node);
@@ -200,7 +203,7 @@ fn clear_bucket(nodes: &mut Nodes, count: u32, bucket: u32)
     requires bucket { bucket < 2 * count }
     ensures first { nodes.new.first ≡ nodes.old.first }
     ensures table { IsTable count nodes.new.words }
-    ensures cleared { nodes.new.words ≡ with_word (with_word (with_word nodes.old.words 2 bucket bucket) 3 bucket bucket) 5 bucket 0 }
+    ensures cleared { nodes.new.words ≡ with_word (with_word (with_word nodes.old.words after_column bucket bucket) before_column bucket bucket) members_column bucket 0 }
 {
     let node = nodes.at(bucket);
     loop_back(nodes, Way::After, Way::Before, node);
@@ -211,7 +214,7 @@ fn clear_bucket(nodes: &mut Nodes, count: u32, bucket: u32)
 pub(crate) fn last_key(nodes: &Nodes, count: u32) -> u32
     requires count { count ≤ 4096 }
     requires table { IsTable count nodes.now.words }
-    ensures { result ≡ word_of nodes.now.words 4 (word_of nodes.now.words 1 (2 * count)) }
+    ensures { result ≡ word_of nodes.now.words key_column (word_of nodes.now.words newer_column (2 * count)) }
 {
     nodes.key(nodes.link(nodes.at(2 * count), Way::Newer))
 }
@@ -219,7 +222,7 @@ pub(crate) fn last_key(nodes: &Nodes, count: u32) -> u32
 pub(crate) fn key_of(nodes: &Nodes, count: u32, frame: u32) -> u32
     requires table { IsTable count nodes.now.words }
     requires frame { frame ≤ 2 * count }
-    ensures { result ≡ word_of nodes.now.words 4 frame }
+    ensures { result ≡ word_of nodes.now.words key_column frame }
 {
     nodes.key(nodes.at(frame))
 }
@@ -227,7 +230,7 @@ pub(crate) fn key_of(nodes: &Nodes, count: u32, frame: u32) -> u32
 pub(crate) fn len_of(nodes: &Nodes, count: u32, frame: u32) -> u32
     requires table { IsTable count nodes.now.words }
     requires frame { frame < count }
-    ensures { result ≡ word_of nodes.now.words 6 frame }
+    ensures { result ≡ word_of nodes.now.words length_column frame }
 {
     nodes.len(nodes.at(frame))
 }
@@ -237,7 +240,7 @@ pub(crate) fn put_len(nodes: &mut Nodes, count: u32, frame: u32, len: u32)
     requires frame { frame < count }
     ensures first { nodes.new.first ≡ nodes.old.first }
     ensures table { IsTable count nodes.new.words }
-    ensures len { nodes.new.words ≡ with_word nodes.old.words 6 frame len }
+    ensures len { nodes.new.words ≡ with_word nodes.old.words length_column frame len }
 {
     let node = nodes.at(frame);
     nodes.set_len(node, len);
@@ -246,7 +249,7 @@ pub(crate) fn put_len(nodes: &mut Nodes, count: u32, frame: u32, len: u32)
 pub(crate) fn mark_at(nodes: &Nodes, count: u32, frame: u32) -> Option<u32>
     requires table { IsTable count nodes.now.words }
     requires frame { frame < count }
-    ensures { result ≡ mark_of (word_of nodes.now.words 7 frame) (word_of nodes.now.words 8 frame) }
+    ensures { result ≡ mark_of (word_of nodes.now.words flag_column frame) (word_of nodes.now.words mark_column frame) }
 {
     nodes.mark(nodes.at(frame))
 }
