@@ -102,20 +102,55 @@ layout_of headers = record {
 abbrev pub is_outside : ℕ → ℕ → ℕ → Bool
 is_outside low high n = nat_lt n low || nat_lt high n
 
--- every way in which the headers of a file of this length may be at fault, in the order in which they are looked at
-abbrev pub header_cases : List (List ℕ) → List ℕ → ℕ → List (Bool × HeaderFault)
-header_cases identifiers headers len =
-    (nat_lt len 1024 || not (list_any (bytes_eq (identifier headers)) identifiers), NotCckd (identifier headers))
-    ∷ (is_outside 1 65536 (header_heads headers), BadGeometry Heads (header_heads headers))
-    ∷ (is_outside 1 65536 (header_cylinders headers), BadGeometry Cylinders (header_cylinders headers))
-    ∷ (nat_lt 1048576 (track_count (header_geometry headers)), BadGeometry Tracks (track_count (header_geometry headers)))
-    ∷ (is_outside 37 65024 (header_track_size headers), BadGeometry TrackSize (header_track_size headers))
-    ∷ (nat_lt 1 (header_sequence headers), BadGeometry Sequence (header_sequence headers))
-    ∷ (not (level_one_count headers == group_count (header_geometry headers)), BadCounts LevelOne (level_one_count headers))
-    ∷ (not (level_two_count headers == 256), BadCounts LevelTwo (level_two_count headers))
-    ∷ (is_outside (area_of (group_count (header_geometry headers))) format_limit len, BadCounts Length len)
-    ∷ (not (is_null_format (header_geometry headers) (header_null_format headers)), BadNullFormat (header_null_format headers))
+-- what of the headers is judged
+pub record Judged : Type 0 where
+  pub id : List ℕ
+  pub geometry : Geometry
+  pub sequence : ℕ
+  pub words : ℕ
+  pub entries : ℕ
+  pub null_fmt : ℕ
+
+-- what these headers have of it
+abbrev pub judged_in : List ℕ → Judged
+judged_in headers = record {
+  id = identifier headers;
+  geometry = header_geometry headers;
+  sequence = header_sequence headers;
+  words = level_one_count headers;
+  entries = level_two_count headers;
+  null_fmt = header_null_format headers;
+}
+
+-- the case of another file: it is too short, or begins with none of these identifiers
+abbrev pub other_file_cases : List (List ℕ) → Judged → ℕ → List (Bool × HeaderFault)
+other_file_cases identifiers j len = (nat_lt len 1024 || not (list_any (bytes_eq j.id) identifiers), NotCckd j.id) ∷ []
+
+-- the cases of the geometry, in the order in which they are looked at
+abbrev pub geometry_cases : Judged → List (Bool × HeaderFault)
+geometry_cases j =
+    (is_outside 1 65536 j.geometry.heads, BadGeometry Heads j.geometry.heads)
+    ∷ (is_outside 1 65536 j.geometry.cyls, BadGeometry Cylinders j.geometry.cyls)
+    ∷ (nat_lt 1048576 (track_count j.geometry), BadGeometry Tracks (track_count j.geometry))
+    ∷ (is_outside 37 65024 j.geometry.track_size, BadGeometry TrackSize j.geometry.track_size)
+    ∷ (nat_lt 1 j.sequence, BadGeometry Sequence j.sequence)
     ∷ []
+
+-- the cases of the counts and of the file's length
+abbrev pub count_cases : Judged → ℕ → List (Bool × HeaderFault)
+count_cases j len =
+    (not (j.words == group_count j.geometry), BadCounts LevelOne j.words)
+    ∷ (not (j.entries == 256), BadCounts LevelTwo j.entries)
+    ∷ (is_outside (area_of (group_count j.geometry)) format_limit len, BadCounts Length len)
+    ∷ []
+
+-- the case of a format that null tracks of the device don't have
+abbrev pub format_cases : Judged → List (Bool × HeaderFault)
+format_cases j = (not (is_null_format j.geometry j.null_fmt), BadNullFormat j.null_fmt) ∷ []
+
+-- every way in which the headers of a file of this length may be at fault, in the order in which they are looked at
+abbrev pub header_cases : List (List ℕ) → Judged → ℕ → List (Bool × HeaderFault)
+header_cases identifiers j len = other_file_cases identifiers j len ++ (geometry_cases j ++ (count_cases j len ++ format_cases j))
 
 -- the first case that stands
 abbrev pub first_case : List (Bool × HeaderFault) → Option HeaderFault
@@ -124,4 +159,4 @@ first_case (c ∷ cs) = if c.0 then Some c.1 else first_case cs
 
 -- the first fault of the headers of a file of this length, where these identifiers are wanted
 unfoldable pub header_fault : List (List ℕ) → List ℕ → ℕ → Option HeaderFault
-header_fault identifiers headers len = first_case (header_cases identifiers headers len)
+header_fault identifiers headers len = first_case (header_cases identifiers (judged_in headers) len)

@@ -2,12 +2,12 @@
 use Rattle.std.proofs.Common.{◌≡◌, ℕ, Bool, true, false, cond, List, [], ◌∷◌, ◌++◌, Option, Some, None, refl, sym, ◌∙◌, ap}
 use Rattle.std.specs.Option.{option_or}
 use Rattle.cckd_base.specs.declared.fault.HeaderFault.{HeaderFault}
-use Rattle.cckd_base.specs.Header.{first_case, header_fault, layout_of}
+use Rattle.cckd_base.specs.Header.{other_file_cases, geometry_cases, count_cases, format_cases, first_case, header_fault, layout_of}
 use Rattle.cckd_image.specs.declared.header.DevHeader.{DevHeader}
 use Rattle.cckd_image.specs.declared.header.CckdHeader.{CckdHeader}
 use Rattle.cckd_image.specs.declared.header.ImageHeader.{ImageHeader}
 use Rattle.cckd_image.specs.Image.{dev_header_of, cckd_header_of, header_of, layout_by, decoded}
-use Rattle.cckd_image.specs.Inside.{other_file_cases, geometry_cases, count_cases, format_cases, other_file_fault, geometry_fault, count_fault, format_fault, fault_of}
+use Rattle.cckd_image.specs.Inside.{judged, other_file_fault, geometry_fault, count_fault, format_fault, fault_of}
 
 one_more : (b : Bool) (fault : HeaderFault) (x y z : Option HeaderFault) → x ≡ option_or y z
     → cond b (Some fault) x ≡ option_or (cond b (Some fault) y) z
@@ -24,10 +24,10 @@ pub in_order : (h : ImageHeader) (identifiers : List (List ℕ)) (len : ℕ)
     ≡ option_or (other_file_fault h identifiers len) (option_or (geometry_fault h) (option_or (count_fault h len) (format_fault h)))
 unfolding fault_of
 in_order h identifiers len =
-    first_of_both (other_file_cases h identifiers len) (geometry_cases h ++ (count_cases h len ++ format_cases h))
+    first_of_both (other_file_cases identifiers (judged h) len) (geometry_cases (judged h) ++ (count_cases (judged h) len ++ format_cases (judged h)))
     ∙ ap (option_or (other_file_fault h identifiers len)) (
-    first_of_both (geometry_cases h) (count_cases h len ++ format_cases h)
-    ∙ ap (option_or (geometry_fault h)) (first_of_both (count_cases h len) (format_cases h))
+    first_of_both (geometry_cases (judged h)) (count_cases (judged h) len ++ format_cases (judged h))
+    ∙ ap (option_or (geometry_fault h)) (first_of_both (count_cases (judged h) len) (format_cases (judged h)))
     )
 
 or_to_right : (a b c : Option HeaderFault) → option_or (option_or a b) c ≡ option_or a (option_or b c)

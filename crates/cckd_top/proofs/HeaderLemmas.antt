@@ -11,7 +11,7 @@ use Rattle.cckd_base.specs.declared.geometry.Layout.{Layout}
 use Rattle.cckd_base.specs.declared.fault.HeaderFault.{HeaderFault}
 use Rattle.cckd_base.specs.declared.fault.HeaderFault.TheVariants as fault
 use Rattle.cckd_base.specs.Geometry.{area_of, IsLayout}
-use Rattle.cckd_base.specs.Header.{base_identifier, shadow_identifier, identifier, headers_of, first_case, header_cases, header_fault, layout_of}
+use Rattle.cckd_base.specs.Header.{base_identifier, shadow_identifier, identifier, headers_of, first_case, judged_in, header_cases, header_fault, layout_of}
 use Rattle.cckd_image.specs.declared.header.ImageHeader.{ImageHeader}
 use Rattle.cckd_image.specs.Image.{decoded, header_of, layout_by, IsHeader}
 use Rattle.cckd_top.specs.Opening.{base_fault, HasSoundHeaders}
@@ -79,7 +79,7 @@ base_is_no_shadow : (headers : List ℕ) (len : ℕ) → header_fault (base_iden
     → bytes_eq (identifier headers) shadow_identifier ≡ false
 unfolding header_fault tail_of
 base_is_no_shadow headers len e =
-    let named = not-false _ (or_parts (nat_lt len 1024) _ (first_test (nat_lt len 1024 || not (list_any (bytes_eq (identifier headers)) (base_identifier ∷ []))) (fault.NotCckd (identifier headers)) (tail_of (header_cases (base_identifier ∷ []) headers len)) e)).1 in
+    let named = not-false _ (or_parts (nat_lt len 1024) _ (first_test (nat_lt len 1024 || not (list_any (bytes_eq (identifier headers)) (base_identifier ∷ []))) (fault.NotCckd (identifier headers)) (tail_of (header_cases (base_identifier ∷ []) (judged_in headers) len)) e)).1 in
     let is_base : identifier headers ≡ base_identifier =
     ⊎_elim (λ (h : bytes_eq (identifier headers) base_identifier ≡ true). (bytes_eq-Decides (identifier headers) base_identifier).0 h)
     (λ (h : false ≡ true). absurd (false≢true h))
