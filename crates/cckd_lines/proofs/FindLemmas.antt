@@ -4,19 +4,15 @@ use Rattle.std.proofs.lemmas.Bool.{cases_lt, lt-ltb, le-ltb, false≢true}
 use Rattle.std.proofs.lemmas.List.{length-take-le}
 use Rattle.std.proofs.Math.Seq.{take-append_seam, take-append-add, drop-append-add}
 use Rattle.cckd_shelf.specs.declared.fault.Faults.{Faults}
-use Rattle.cckd_shelf.specs.Faults.{Fails}
-use Rattle.cckd_shelf.specs.declared.fault.Kind.TheVariants.{Takes}
 use Rattle.cckd_shelf.specs.World.{World}
-use Rattle.cckd_top.specs.declared.lines.Place.{Place}
-use Rattle.cckd_top.specs.declared.lines.Next.{Next}
-use Rattle.cckd_top.specs.declared.lines.Next.TheVariants as next
-use Rattle.cckd_top.specs.Lines.{IsFirstFeed, fed, last, IsLine, IsNext, Passes, line_next, IsPlace, IsAtEnd, Grows, TakesMore, BreaksOff, pending, allowance}
+use Rattle.cckd_lines.specs.declared.lines.Place.{Place}
+use Rattle.cckd_lines.specs.declared.lines.Next.{Next}
+use Rattle.cckd_lines.specs.declared.lines.Next.TheVariants as next
+use Rattle.cckd_lines.specs.Lines.{IsFirstFeed, fed, last, IsLine, IsNext, Passes, line_next, IsPlace, IsAtEnd, Grows, TakesMore, BreaksOff, pending, allowance}
 use Rattle.cckd_script.specs.Lines.{HasNoFeed, line_limit}
 use Rattle.cckd_script.proofs.LineLemmas.{no_feed-append}
-use Rattle.cckd_top.specs.World.{OnlyTakes}
-use Rattle.cckd_top.proofs.WorldLemmas.{only_takes_twice}
-use Rattle.cckd_top.proofs.FaultLemmas.{went_well, fails_then, fails_nothing}
-use Rattle.cckd_top.proofs.Filling.{length_pending, pending_front, line_ends, none_pending}
+use Rattle.cckd_lines.specs.Lines.{OnlyTakes}
+use Rattle.cckd_lines.proofs.FillLemmas.{only_takes_twice, length_pending, pending_front, line_ends, none_pending}
 
 -- the room has the same of the script before it as at first, with more of it taken
 pub record IsFilling (tells : Type 0) (old now : World) (before after : Faults) (first place : Place) (begun room : List ℕ) : Type 0 where
@@ -26,7 +22,7 @@ pub record IsFilling (tells : Type 0) (old now : World) (before after : Faults) 
   pub ended : tells → IsAtEnd place now.script
   pub going_on : first.ended ≡ true → place.ended ≡ true
   pub only : tells → OnlyTakes old now
-  pub fails : Fails Takes went_well before after
+  pub quiet : after ≡ before
   pub long : length room ≡ length begun
 
 pub fills_none : (tells : Type 0) (w : World) (f : Faults) (place : Place) (room : List ℕ) → IsPlace room place
@@ -38,7 +34,7 @@ fills_none tells w f at room is ended_there = record {
   ended = ended_there;
   going_on = λ e. e;
   only = λ told. record { files = refl; events = refl };
-  fails = fails_nothing Takes f;
+  quiet = refl;
   long = refl;
 }
 
@@ -48,7 +44,7 @@ module _ (tells : Type 0) (old now : World) (before after : Faults) (first place
     pub fills_on : (then : World) (later : Faults) (moved taken : Place) (front room' : List ℕ)
         → pending front moved ≡ pending room place → moved ≡ record place { start = 0; end = place.end - place.start }
         → IsPlace room' taken → Grows moved taken → (tells → TakesMore front room' moved taken now.script then.script)
-        → place.ended ≡ false → (tells → OnlyTakes now then) → Fails Takes went_well after later → length room' ≡ length room
+        → place.ended ≡ false → (tells → OnlyTakes now then) → later ≡ after → length room' ≡ length room
         → IsFilling tells old then before later first taken begun room'
     fills_on then later moved taken front room' kept is within grows more going only_takes fine long = record {
       within = within;
@@ -68,7 +64,7 @@ module _ (tells : Type 0) (old now : World) (before after : Faults) (first place
       ended = λ told. (more told).ended;
       going_on = λ e. absurd (false≢true (sym going ∙ so_far.going_on e));
       only = λ told. only_takes_twice old now then (so_far.only told) (only_takes told);
-      fails = fails_then Takes went_well went_well before after later so_far.fails fine;
+      quiet = fine ∙ so_far.quiet;
       long = long ∙ so_far.long;
     }
 

@@ -1,13 +1,14 @@
+use Rattle.std.specs.Prelude.{T}
 use Rattle.std.proofs.Common.{◌≤◌, ◌+◌, ◌-◌, cond, take}
 use Rattle.cckd_script.specs.Lines.{HasNoFeed}
-use Rattle.cckd_top.specs.Lines.{pending}
-use Rattle.cckd_top.proofs.Finding.{IsFilling}
-use Rattle.cckd_top.proofs.lines.next_line.Given as goal
+use Rattle.cckd_lines.specs.Lines.{pending}
+use Rattle.cckd_lines.proofs.FindLemmas.{IsFilling}
+use Rattle.cckd_lines.proofs.lines.next_line.Given as goal
 
 abbrev pub invariant-loop-at : goal.invariant-loop-at
 invariant-loop-at g l =
-    IsFilling g.T.Shelf.tells (g.T.Shelf.world l.initial.stage) (g.T.Shelf.world l.stage) (g.T.Shelf.faults l.initial.stage)
-    (g.T.Shelf.faults l.stage) l.initial.place l.place l.initial.room l.room
+    IsFilling (T g.T.Shows.tells) (g.T.Shows.world l.initial.stage) (g.T.Shows.world l.stage) (g.T.Shows.faults l.initial.stage)
+    (g.T.Shows.faults l.stage) l.initial.place l.place l.initial.room l.room
     × (l.seen ≤ l.place.end - l.place.start) × HasNoFeed (take l.seen (pending l.room l.place))
 
 abbrev pub decreases-loop-at : goal.decreases-loop-at

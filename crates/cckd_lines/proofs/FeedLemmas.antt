@@ -9,7 +9,7 @@ use Rattle.std.proofs.Math.Seq.{take-add, take-append-add}
 use borrow.Rule.Slice.PartMut.{put_mid, post_of}
 use Rattle.cckd_script.specs.Lines.{HasNoFeed}
 use Rattle.cckd_script.proofs.LineLemmas.{no_feed-append}
-use Rattle.cckd_top.specs.Lines.{is_feed, IsFirstFeed}
+use Rattle.cckd_lines.specs.Lines.{is_feed, IsFirstFeed}
 
 -- a byte that ends no line isn't a line feed
 no_feed_here : (b : ℕ) → is_feed b ≡ false → b ≢ 10

@@ -1,9 +1,10 @@
 -- A script, line by line, as it is taken.
 use Rattle.std.specs.Prelude.{◌≡◌, ◌<◌, ◌≤◌, ℕ, ◌+◌, ◌-◌, ◌==◌, nat_lt, if◌then◌else◌, Bool, true, ⊤, List, [], ◌∷◌, ◌++◌, length, take, drop}
 use Rattle.cckd_script.specs.Lines.{HasNoFeed, line_limit}
-use Rattle.cckd_top.specs.declared.lines.Place.{Place}
-use Rattle.cckd_top.specs.declared.lines.Next.{Next}
-use Rattle.cckd_top.specs.declared.lines.Next.TheVariants as next
+use Rattle.cckd_shelf.specs.World.{World}
+use Rattle.cckd_lines.specs.declared.lines.Place.{Place}
+use Rattle.cckd_lines.specs.declared.lines.Next.{Next}
+use Rattle.cckd_lines.specs.declared.lines.Next.TheVariants as next
 
 -- whether a byte ends a line
 abbrev pub is_feed : ℕ → Bool
@@ -21,6 +22,11 @@ allowance place = place.left + (place.end - place.start)
 pub record IsPlace (room : List ℕ) (place : Place) : Type 0 where
   pub order : place.start ≤ place.end
   pub within : place.end ≤ length room
+
+-- a part of the script is taken, and nothing else happens
+pub record OnlyTakes (old new : World) : Type 0 where
+  pub files : new.files ≡ old.files
+  pub events : new.events ≡ old.events
 
 -- a text begins with a line: its line feed follows, or the text ends with it
 pub data BeginsWith (line text rest : List ℕ) (ended : Bool) : Type 0 where

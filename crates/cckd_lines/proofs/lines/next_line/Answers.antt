@@ -1,12 +1,12 @@
 use Rattle.std.proofs.Common.{◌≡◌, ◌<◌, ◌-◌, ◌++◌, length, drop, Option, IfNone, MatchOption, ℕ, ◌∙◌, sym, ap, subst, arith}
 use Rattle.std.proofs.lemmas.Bool.{false≢true}
-use Rattle.cckd_top.specs.declared.lines.Place.{Place}
-use Rattle.cckd_top.specs.declared.lines.Next.{Next}
+use Rattle.cckd_lines.specs.declared.lines.Place.{Place}
+use Rattle.cckd_lines.specs.declared.lines.Next.{Next}
 use Rattle.cckd_script.specs.Lines.{HasNoFeed}
-use Rattle.cckd_top.specs.Lines.{IsFirstFeed, IsNext, BreaksOff, line_next, pending, allowance}
-use Rattle.cckd_top.proofs.Finding.{finds_line, finds_last, finds_limit, finds_passed, breaks_off, breaks_off_later, if_ok_map, on_err_map, on_err}
-use Rattle.cckd_top.proofs.lines.next_line.Goals as goal
-use Rattle.cckd_top.proofs.lines.next_line.Goals.{else-place-via-then-place+else-len-eq0, else-place-via-else-place}
+use Rattle.cckd_lines.specs.Lines.{IsFirstFeed, IsNext, BreaksOff, line_next, pending, allowance}
+use Rattle.cckd_lines.proofs.FindLemmas.{finds_line, finds_last, finds_limit, finds_passed, breaks_off, breaks_off_later, if_ok_map, on_err_map, on_err}
+use Rattle.cckd_lines.proofs.lines.next_line.Goals as goal
+use Rattle.cckd_lines.proofs.lines.next_line.Goals.{else-place-via-then-place+else-len-eq0, else-place-via-else-place}
 
 pub returns-in-Some-clause-next : goal.returns-in-Some-clause-next
 returns-in-Some-clause-next g c = λ told.
@@ -17,8 +17,8 @@ returns-in-Some-clause-next g c = λ told.
     let feed = subst (λ (o : Option ℕ). MatchOption o (HasNoFeed text) (IsFirstFeed text)) c.in-Some.is
     c.feed_behind.ensures in
     let found = finds_line _ _ _ _ _ _ _ _ _ c.loop-at.invariant.0 at feed told in
-    let start = (g.T.Shelf.world c.args.stage.now).script in
-    let left = (g.T.Shelf.world c.loop-at.stage).script in
+    let start = (g.T.Shows.world c.args.stage.now).script in
+    let left = (g.T.Shows.world c.loop-at.stage).script in
     let whole = pending c.args.room.now c.args.place ++ start in
     subst (λ (n : Next). IsNext room whole (pending room c.cut_off.result.1 ++ left) (allowance c.args.place) c.cut_off.result.1 n)
     (sym c.cut_off.ensures.next)
@@ -37,8 +37,8 @@ returns-then-place-2-clause-next g c = λ told.
       | else-place-via-else-place w ↦ absurd (false≢true (sym w.if-place.false ∙ c.if-place-2.true))
     ] in
     let found = finds_last _ _ _ _ _ _ _ _ _ c.loop-at.invariant.0 none c.if-place-2.true some_there told in
-    let start = (g.T.Shelf.world c.args.stage.now).script in
-    let left = (g.T.Shelf.world c.loop-at.stage).script in
+    let start = (g.T.Shows.world c.args.stage.now).script in
+    let left = (g.T.Shows.world c.loop-at.stage).script in
     let whole = pending c.args.room.now c.args.place ++ start in
     let cut = c.cut_off-then-place-2 in
     subst (λ (n : Next). IsNext room whole (pending room cut.result.1 ++ left) (allowance c.args.place) cut.result.1 n)
@@ -53,7 +53,7 @@ returns-then-len-gt-LINE_LIMIT-clause-next g c = λ told.
     let none = subst (λ (o : Option ℕ). MatchOption o (HasNoFeed text) (IsFirstFeed text)) c.in_default.is
     c.feed_behind.ensures in
     if_ok_map _ _ c.pass_line.result (c.pass_line.ensures.passes told)
-    (λ found passes. finds_passed _ _ _ _ _ _ _ _ _ c.loop-at.invariant.0 _ (g.T.Shelf.world c.pass_line.new.stage) found.1 found.0 none c.if-len-gt-LINE_LIMIT.true passes told)
+    (λ found passes. finds_passed _ _ _ _ _ _ _ _ _ c.loop-at.invariant.0 _ (g.T.Shows.world c.pass_line.new.stage) found.1 found.0 none c.if-len-gt-LINE_LIMIT.true passes told)
 
 pub returns-then-len-gt-LINE_LIMIT-clause-broken : goal.returns-then-len-gt-LINE_LIMIT-clause-broken
 returns-then-len-gt-LINE_LIMIT-clause-broken g c = λ told.
@@ -61,8 +61,8 @@ returns-then-len-gt-LINE_LIMIT-clause-broken g c = λ told.
     let text = pending c.loop-at.room place in
     let none = subst (λ (o : Option ℕ). MatchOption o (HasNoFeed text) (IsFirstFeed text)) c.in_default.is
     c.feed_behind.ensures in
-    on_err_map (BreaksOff c.loop-at.place.left (g.T.Shelf.world c.loop-at.stage).script (g.T.Shelf.world c.pass_line.new.stage).script) _ c.pass_line.result (c.pass_line.ensures.broken told)
-    (λ broken. breaks_off_later _ _ _ _ _ _ _ _ _ c.loop-at.invariant.0 (g.T.Shelf.world c.pass_line.new.stage) none (λ _. broken) told)
+    on_err_map (BreaksOff c.loop-at.place.left (g.T.Shows.world c.loop-at.stage).script (g.T.Shows.world c.pass_line.new.stage).script) _ c.pass_line.result (c.pass_line.ensures.broken told)
+    (λ broken. breaks_off_later _ _ _ _ _ _ _ _ _ c.loop-at.invariant.0 (g.T.Shows.world c.pass_line.new.stage) none (λ _. broken) told)
 
 pub returns-in_err-taken-clause-broken : goal.returns-in_err-taken-clause-broken
 returns-in_err-taken-clause-broken g c = λ told.
@@ -70,7 +70,7 @@ returns-in_err-taken-clause-broken g c = λ told.
     let text = pending c.loop-at.room place in
     let none = subst (λ (o : Option ℕ). MatchOption o (HasNoFeed text) (IsFirstFeed text)) c.in_default.is
     c.feed_behind.ensures in
-    on_err _ _ (breaks_off _ _ _ _ _ _ _ _ _ c.loop-at.invariant.0 (g.T.Shelf.world c.take_more.new.stage) none (c.in_err-taken.ensures.kept) told)
+    on_err _ _ (breaks_off _ _ _ _ _ _ _ _ _ c.loop-at.invariant.0 (g.T.Shows.world c.take_more.new.stage) none (c.in_err-taken.ensures.kept) told)
 
 pub returns-in_default-2-clause-next : goal.returns-in_default-2-clause-next
 returns-in_default-2-clause-next g c = λ told.
@@ -78,10 +78,10 @@ returns-in_default-2-clause-next g c = λ told.
     let text = pending c.loop-at.room place in
     let none = subst (λ (o : Option ℕ). MatchOption o (HasNoFeed text) (IsFirstFeed text)) c.in_default.is
     c.feed_behind.ensures in
-    finds_limit _ _ _ _ _ _ _ _ _ c.loop-at.invariant.0 c.take_more.new.room (g.T.Shelf.world c.take_more.new.stage)
+    finds_limit _ _ _ _ _ _ _ _ _ c.loop-at.invariant.0 c.take_more.new.room (g.T.Shows.world c.take_more.new.stage)
     (record c.moved_to_front-place.result { start = c.moved_to_front-place.result.end }) none
     (sym (ap (λ (p : Place). p.left) c.moved_to_front-place.ensures.end)
     ∙ subst (λ (o : Option Place). IfNone o (c.moved_to_front-place.result.left ≡ 0)) c.in_default-2.is c.in_ok-taken.ensures.past)
-    (λ t. subst (λ (o : Option Place). IfNone o (0 < length (g.T.Shelf.world c.loop-at.stage).script)) c.in_default-2.is (c.in_ok-taken.ensures.some t))
-    (λ t. subst (λ (o : Option Place). IfNone o ((g.T.Shelf.world c.take_more.new.stage).script ≡ drop 1 (g.T.Shelf.world c.loop-at.stage).script)) c.in_default-2.is (c.in_ok-taken.ensures.one t))
+    (λ t. subst (λ (o : Option Place). IfNone o (0 < length (g.T.Shows.world c.loop-at.stage).script)) c.in_default-2.is (c.in_ok-taken.ensures.some t))
+    (λ t. subst (λ (o : Option Place). IfNone o ((g.T.Shows.world c.take_more.new.stage).script ≡ drop 1 (g.T.Shows.world c.loop-at.stage).script)) c.in_default-2.is (c.in_ok-taken.ensures.one t))
     (omega arith) told

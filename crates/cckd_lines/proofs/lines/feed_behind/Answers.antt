@@ -1,9 +1,9 @@
 use Rattle.std.proofs.Common.{◌≡◌, ℕ, ◌-◌, List, Option, MatchOption, length, take, drop, position, length-drop, subst}
 use Rattle.std.proofs.Math.Seq.{take-length}
 use Rattle.cckd_script.specs.Lines.{HasNoFeed}
-use Rattle.cckd_top.specs.Lines.{is_feed, IsFirstFeed}
-use Rattle.cckd_top.proofs.Feeds.{feed_found, no_feed_behind, feed_behind}
-use Rattle.cckd_top.proofs.lines.feed_behind.Goals as goal
+use Rattle.cckd_lines.specs.Lines.{is_feed, IsFirstFeed}
+use Rattle.cckd_lines.proofs.FeedLemmas.{feed_found, no_feed_behind, feed_behind}
+use Rattle.cckd_lines.proofs.lines.feed_behind.Goals as goal
 
 -- what is searched is all behind the front
 searched : (text : List ℕ) (seen : ℕ) (found : Option ℕ) → found ≡ position is_feed (take (length text - seen) (drop seen text))

@@ -1,11 +1,10 @@
 //! The script, line by line, as it is taken into a room.
 
 ghost use Rattle.std.specs.Prelude.{◌≡◌, ℕ, ◌+◌, ◌-◌, ◌<◌, ◌≤◌, ◌++◌, false, length, take, drop, position, MatchOption, [], IfOk, IfErr, IfSome, IfNone, OnErr};
-ghost use Rattle.cckd_shelf.specs.Faults.{Fails};
 ghost use Rattle.cckd_shelf.specs.declared.fault.Kind.TheVariants.{Takes};
+ghost use Rattle.cckd_shelf.specs.Seen.{seen, Tells, Stays, Fails};
 ghost use Rattle.cckd_script.specs.Lines.{HasNoFeed};
-ghost use Rattle.cckd_top.specs.Lines.{is_feed, IsFirstFeed, IsPlace, IsAtEnd, Grows, TakesMore, IsNext, Passes, LiesIn, IsShort, Advances, BreaksOff, pending, allowance, line_next};
-ghost use Rattle.cckd_top.specs.World.{OnlyTakes};
+ghost use Rattle.cckd_lines.specs.Lines.{is_feed, IsFirstFeed, IsPlace, IsAtEnd, Grows, TakesMore, IsNext, Passes, LiesIn, IsShort, Advances, BreaksOff, OnlyTakes, pending, allowance, line_next};
 
 use cckd_script::LINE_LIMIT;
 use cckd_shelf::{Failed, Stage};
@@ -84,18 +83,18 @@ fn take_more<T: Stage>(
     requires going_on { place.ended ≡ false }
     ensures place { IfOk result (λ taken. IfSome taken (IsPlace room.new)) }
     ensures grows { IfOk result (λ taken. IfSome taken (Grows place)) }
-    ensures takes { T.tells → IfOk result (λ taken. IfSome taken (λ after. TakesMore room.old room.new place after
-        (T.world stage.old).script (T.world stage.new).script)) }
+    ensures takes { Tells (seen T.Shows stage.old) → IfOk result (λ taken. IfSome taken (λ after. TakesMore room.old room.new place after
+        (seen T.Shows stage.old).world.script (seen T.Shows stage.new).world.script)) }
     ensures front { IfOk result (λ taken. IfSome taken (λ after.
         take (place.end - place.start) (pending room.new after) ≡ pending room.old place)) }
     ensures past { IfOk result (λ taken. IfNone taken (place.left ≡ 0)) }
     ensures room { length room.new ≡ length room.old }
-    ensures some { T.tells → IfOk result (λ taken. IfNone taken (0 < length (T.world stage.old).script)) }
-    ensures one { T.tells → IfOk result (λ taken. IfNone taken
-        ((T.world stage.new).script ≡ drop 1 (T.world stage.old).script)) }
-    ensures only { T.tells → OnlyTakes (T.world stage.old) (T.world stage.new) }
-    ensures kept { T.tells → OnErr result (T.world stage.new ≡ T.world stage.old) }
-    ensures fails { Fails Takes result (T.faults stage.old) (T.faults stage.new) }
+    ensures some { Tells (seen T.Shows stage.old) → IfOk result (λ taken. IfNone taken (0 < length (seen T.Shows stage.old).world.script)) }
+    ensures one { Tells (seen T.Shows stage.old) → IfOk result (λ taken. IfNone taken
+        ((seen T.Shows stage.new).world.script ≡ drop 1 (seen T.Shows stage.old).world.script)) }
+    ensures only { Tells (seen T.Shows stage.old) → OnlyTakes (seen T.Shows stage.old).world (seen T.Shows stage.new).world }
+    ensures kept { OnErr result (Stays (seen T.Shows stage.old) (seen T.Shows stage.new)) }
+    ensures fails { Fails Takes result (seen T.Shows stage.old) (seen T.Shows stage.new) }
 {
     let room_left = room.len() - place.end;
     let want = room_left.min(place.left).max(1);
@@ -125,16 +124,16 @@ fn pass_line<T: Stage>(
     requires room { 0 < length room.old }
     requires going_on { place.ended ≡ false }
     ensures place { IfOk result (λ found. IsPlace room.new found.1) }
-    ensures ended { T.tells → IfOk result (λ found. IsAtEnd found.1 (T.world stage.new).script) }
-    ensures passes { T.tells → IfOk result (λ found. Passes (T.world stage.old).script
-        (pending room.new found.1 ++ (T.world stage.new).script) place.left found.1 found.0) }
+    ensures ended { Tells (seen T.Shows stage.old) → IfOk result (λ found. IsAtEnd found.1 (seen T.Shows stage.new).world.script) }
+    ensures passes { Tells (seen T.Shows stage.old) → IfOk result (λ found. Passes (seen T.Shows stage.old).world.script
+        (pending room.new found.1 ++ (seen T.Shows stage.new).world.script) place.left found.1 found.0) }
     ensures lies { IfOk result (λ found. LiesIn room.new found.0) }
     ensures short { IfOk result (λ found. IsShort found.0) }
     ensures left { IfOk result (λ found. allowance found.1 ≤ place.left) }
     ensures room { length room.new ≡ length room.old }
-    ensures broken { T.tells → OnErr result (BreaksOff place.left (T.world stage.old).script (T.world stage.new).script) }
-    ensures only { T.tells → OnlyTakes (T.world stage.old) (T.world stage.new) }
-    ensures fails { Fails Takes result (T.faults stage.old) (T.faults stage.new) }
+    ensures broken { Tells (seen T.Shows stage.old) → OnErr result (BreaksOff place.left (seen T.Shows stage.old).world.script (seen T.Shows stage.new).world.script) }
+    ensures only { Tells (seen T.Shows stage.old) → OnlyTakes (seen T.Shows stage.old).world (seen T.Shows stage.new).world }
+    ensures fails { Fails Takes result (seen T.Shows stage.old) (seen T.Shows stage.new) }
 {
     let mut place = place;
     loop {
@@ -195,20 +194,20 @@ pub fn next_line<T: Stage>(
 ) -> Result<(Next, Place), Failed>
     requires place { IsPlace room.old place }
     requires room { LINE_LIMIT + 2 ≤ length room.old }
-    requires ended { T.tells → IsAtEnd place (T.world stage.old).script }
+    requires ended { Tells (seen T.Shows stage.old) → IsAtEnd place (seen T.Shows stage.old).world.script }
     ensures place { IfOk result (λ found. IsPlace room.new found.1) }
     ensures room { length room.new ≡ length room.old }
-    ensures ended { T.tells → IfOk result (λ found. IsAtEnd found.1 (T.world stage.new).script) }
-    ensures next { T.tells → IfOk result (λ found. IsNext room.new (pending room.old place ++ (T.world stage.old).script)
-        (pending room.new found.1 ++ (T.world stage.new).script) (allowance place) found.1 found.0) }
+    ensures ended { Tells (seen T.Shows stage.old) → IfOk result (λ found. IsAtEnd found.1 (seen T.Shows stage.new).world.script) }
+    ensures next { Tells (seen T.Shows stage.old) → IfOk result (λ found. IsNext room.new (pending room.old place ++ (seen T.Shows stage.old).world.script)
+        (pending room.new found.1 ++ (seen T.Shows stage.new).world.script) (allowance place) found.1 found.0) }
     ensures lies { IfOk result (λ found. LiesIn room.new found.0) }
     ensures short { IfOk result (λ found. IsShort found.0) }
     ensures advances { IfOk result (λ found. Advances (allowance place) (allowance found.1) found.0) }
-    ensures broken { T.tells → OnErr result
-        (BreaksOff (allowance place) (pending room.old place ++ (T.world stage.old).script) (T.world stage.new).script) }
+    ensures broken { Tells (seen T.Shows stage.old) → OnErr result
+        (BreaksOff (allowance place) (pending room.old place ++ (seen T.Shows stage.old).world.script) (seen T.Shows stage.new).world.script) }
     ensures going_on { OnErr result (place.ended ≡ false) }
-    ensures only { T.tells → OnlyTakes (T.world stage.old) (T.world stage.new) }
-    ensures fails { Fails Takes result (T.faults stage.old) (T.faults stage.new) }
+    ensures only { Tells (seen T.Shows stage.old) → OnlyTakes (seen T.Shows stage.old).world (seen T.Shows stage.new).world }
+    ensures fails { Fails Takes result (seen T.Shows stage.old) (seen T.Shows stage.new) }
 {
     let mut place = place;
     let mut seen = 0;

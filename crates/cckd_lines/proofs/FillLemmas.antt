@@ -4,18 +4,17 @@ use Rattle.std.proofs.lemmas.List.{take-append-drop, length-take-le, drop-drop, 
 use Rattle.std.proofs.Math.Seq.{take-append_seam, drop-append-add}
 use borrow.Rule.Slice.PartMut.{put_mid}
 use Rattle.cckd_shelf.specs.declared.fault.Faults.{Faults}
-use Rattle.cckd_shelf.specs.Faults.{Fails}
-use Rattle.cckd_shelf.specs.declared.fault.Kind.TheVariants.{Takes}
 use Rattle.cckd_shelf.specs.World.{World}
-use Rattle.cckd_top.specs.declared.lines.Place.{Place}
-use Rattle.cckd_top.specs.declared.lines.Next.TheVariants as next
-use Rattle.cckd_top.proofs.FaultLemmas.{went_well, fails_then, fails_nothing}
+use Rattle.cckd_lines.specs.declared.lines.Place.{Place}
+use Rattle.cckd_lines.specs.declared.lines.Next.TheVariants as next
 use Rattle.cckd_script.specs.Lines.{HasNoFeed}
 use Rattle.cckd_script.proofs.LineLemmas.{no_feed-append}
-use Rattle.cckd_top.specs.World.{OnlyTakes}
-use Rattle.cckd_top.proofs.WorldLemmas.{only_takes_twice}
-use Rattle.cckd_top.specs.Lines.{IsFirstFeed, fed, last, Passes, IsPlace, IsAtEnd, Grows, TakesMore, BreaksOff, pending}
-use Rattle.cckd_top.proofs.Feeds.{put_behind}
+use Rattle.cckd_lines.specs.Lines.{OnlyTakes}
+use Rattle.cckd_lines.specs.Lines.{IsFirstFeed, fed, last, Passes, IsPlace, IsAtEnd, Grows, TakesMore, BreaksOff, pending}
+use Rattle.cckd_lines.proofs.FeedLemmas.{put_behind}
+
+pub only_takes_twice : (a b c : World) → OnlyTakes a b → OnlyTakes b c → OnlyTakes a c
+only_takes_twice a b c f g = record { files = g.files ∙ f.files; events = g.events ∙ f.events }
 
 -- so many bytes of the script were taken behind what was pending
 pub took : (room into : List ℕ) (place after : Place) (script left : List ℕ) (count k : ℕ)
@@ -109,7 +108,7 @@ pub record IsPassing (tells : Type 0) (old now : World) (before after : Faults) 
   pub going_on : place.ended ≡ false
   pub left : place.left ≤ first.left
   pub only : tells → OnlyTakes old now
-  pub fails : Fails Takes went_well before after
+  pub quiet : after ≡ before
 
 module _ (tells : Type 0) (old now then : World) (before after later : Faults) (first place emptied taken : Place)
     (room room' : List ℕ) (so_far : IsPassing tells old now before after first place)
@@ -122,7 +121,7 @@ module _ (tells : Type 0) (old now then : World) (before after later : Faults) (
     passed_text told = sym ((more told).rest ∙ ap (λ (s : List ℕ). s ++ now.script) (none_pending room emptied (omega (arith, start, end))))
 
     pub passes_on : HasNoFeed (pending room' taken) → taken.ended ≡ false → (tells → OnlyTakes now then)
-        → Fails Takes went_well after later → IsPassing tells old then before later first taken
+        → later ≡ after → IsPassing tells old then before later first taken
     passes_on none going only fine = record {
       piece = λ told.
           let p = so_far.piece told in (
@@ -134,7 +133,7 @@ module _ (tells : Type 0) (old now then : World) (before after later : Faults) (
       going_on = going;
       left = omega (arith, so_far.left, grows.left, left);
       only = λ told. only_takes_twice old now then (so_far.only told) (only told);
-      fails = fails_then Takes went_well went_well before after later so_far.fails fine;
+      quiet = fine ∙ so_far.quiet;
     }
 
     pub passes_feed : (behind : Place) (at : ℕ) → IsFirstFeed (pending room' taken) at → behind.start ≡ taken.start + at + 1
@@ -214,7 +213,7 @@ passes_none tells w f place going = record {
   going_on = going;
   left = omega arith;
   only = λ told. record { files = refl; events = refl };
-  fails = fails_nothing Takes f;
+  quiet = refl;
 }
 
 -- the limit is met in a line that is passed
