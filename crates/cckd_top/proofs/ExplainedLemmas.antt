@@ -5,7 +5,8 @@ use Rattle.std.proofs.Math.Seq.{take-append-add}
 use Rattle.cckd_base.specs.declared.geometry.Layout.{Layout}
 use Rattle.cckd_shelf.specs.declared.fault.Faults.{Faults}
 use Rattle.cckd_shelf.specs.Faults.{Rose, NoneFell}
-use Rattle.cckd_shelf.specs.World.{World, IsSure, file_of, held_by, output_of}
+use Rattle.cckd_shelf.specs.Events.{output_of}
+use Rattle.cckd_shelf.specs.World.{World, IsSure, file_of, held_by}
 use Rattle.cckd_script.specs.Text.{Entry, script_text, line}
 use Rattle.cckd_top.specs.declared.halt.Halt.{Halt}
 use Rattle.cckd_top.specs.declared.halt.Halt.TheVariants as halt
@@ -17,7 +18,7 @@ use Rattle.cckd_top.specs.Text.{halt_text, halt_status}
 use Rattle.cckd_top.specs.Words.{words_fault, file_word}
 use Rattle.cckd_top.specs.World.{KeepsFiles, MakesSome, MakesThenPuts, PutsFront, IsPrinted, whole, cut_short}
 use Rattle.cckd_top.specs.Run.{halted, closed, unscripted, cut, script_limit, opening_in, HasHaltCause, OverTheFile, HasFileCause, words_are_bad, file_is_named, HaltMakes, IsBaseSync}
-use Rattle.cckd_top.specs.Explained.{IsExplained, IsFileExplained, Finishes}
+use Rattle.cckd_top.specs.Explained.{IsExplainedBy, IsFileExplained, Finishes}
 use Rattle.cckd_top.proofs.FaultLemmas.{none_fell_twice}
 use Rattle.cckd_top.proofs.WorldLemmas.{keeps_files_twice, makes_then_puts, only_makes_nothing}
 use Rattle.cckd_top.proofs.MountLemmas.{idle_makes}
@@ -166,7 +167,7 @@ module _ (tells : Type 0) (w between served end : World) (name : List ℕ) (befo
 -- words that name a file
 pub words_named : (tells : Type 0) (w w' : World) (before after : Faults) (words : List (List ℕ)) (name : List ℕ) (status : ℕ)
     → words_fault words ≡ None → name ≡ file_word words → IsFileExplained tells w w' before after name status
-    → IsExplained tells w w' before after words status
+    → IsExplainedBy tells w w' before after words status
 words_named tells w w' before after words name status good is file = record {
   end = file.end;
   cause = file_is_named good (subst (λ (n : List ℕ). HasFileCause tells (tells × IsSure w) w w' n before after file.end) is file.cause);
@@ -179,7 +180,7 @@ words_named tells w w' before after words name status good is file = record {
 pub words_halt : (tells : Type 0) (w w' : World) (before after : Faults) (words : List (List ℕ)) (n status : ℕ)
     → words_fault words ≡ Some n
     → IsPrinted tells w w' (line (halt_text (halt.BadWords n))) (halt_status (halt.BadWords n)) (Rose before.puts after.puts) status
-    → (tells → KeepsFiles w w') → (tells → w'.script ≡ w.script) → NoneFell before after → IsExplained tells w w' before after words status
+    → (tells → KeepsFiles w w') → (tells → w'.script ≡ w.script) → NoneFell before after → IsExplainedBy tells w w' before after words status
 words_halt tells w w' before after words n status bad printed files script fell = record {
   end = halted (halt.BadWords n);
   cause = words_are_bad n bad refl script;

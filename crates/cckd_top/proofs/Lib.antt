@@ -2,9 +2,6 @@ pub mod FaultLemmas
 pub mod WorldLemmas
 pub mod NameLemmas
 pub mod Putting
-pub mod Feeds
-pub mod Filling
-pub mod Finding
 pub mod CleanLemmas
 pub mod ReplyLemmas
 pub mod ServingLemmas

@@ -6,10 +6,10 @@ use Rattle.cckd_base.specs.declared.misfit.Misfit.{Misfit}
 use Rattle.cckd_base.specs.Survey.{misfits}
 use Rattle.cckd_tables.specs.Scan.{first_misfit}
 use Rattle.cckd_shelf.specs.declared.fault.Faults.{Faults}
-use Rattle.cckd_shelf.specs.declared.op.Op.{Op}
-use Rattle.cckd_shelf.specs.declared.op.Op.TheVariants.{Sync}
+use Rattle.cckd_shelf.specs.Events.{Synced}
 use Rattle.cckd_shelf.specs.Faults.{NoneFell}
-use Rattle.cckd_shelf.specs.World.{World, IsSure, IsTied, file_of, held_by, output_of, after_sync}
+use Rattle.cckd_shelf.specs.Events.{output_of}
+use Rattle.cckd_shelf.specs.World.{World, IsSure, IsTied, file_of, held_by, after_sync}
 use Rattle.cckd_top.specs.declared.halt.Halt.{Halt}
 use Rattle.cckd_top.specs.declared.halt.Halt.TheVariants as halt
 use Rattle.cckd_top.specs.Opening.{bad_header, has_misfit, not_yet, ready, opening_by, opening_of, base_fault, file_layout, IsBaseOf, HasBaseCause}
@@ -18,12 +18,12 @@ use Rattle.cckd_top.specs.World.{OnlyMakes, MakesSome, AreNamed, has_shadow, hol
 use Rattle.cckd_top.proofs.WorldLemmas.{only_makes_twice, intact_at_sync}
 use Rattle.cckd_top.proofs.ShadowLemmas.{shadows_are_held}
 
-sync_makes : (w : World) (slot : ℕ) → OnlyMakes (Sync slot ∷ []) w (after_sync w slot)
+sync_makes : (w : World) (slot : ℕ) → OnlyMakes (Synced slot ∷ []) w (after_sync w slot)
 sync_makes w slot = record { files = refl; made = refl; silent = append-nil (output_of w.events); sure = refl; script = refl; intact = intact_at_sync w slot }
 
 -- The files have the names of a disk, and nothing else was done but to sync the base: slot 0 holds what the name held, and the slots above its shadows.
 pub record IsNamedDisk (tells : Type 0) (old now : World) (name : List ℕ) : Type 0 where
-  pub makes : tells → OnlyMakes (Sync 0 ∷ []) old now
+  pub makes : tells → OnlyMakes (Synced 0 ∷ []) old now
   pub named : tells → AreNamed now name 9
 
 -- after the base was synced
@@ -32,25 +32,25 @@ pub after_the_sync : (tells : Type 0) (old bound synced : World) (name : List �
 after_the_sync tells old bound synced name slot base idle named sync =
     let is : tells → synced ≡ after_sync bound 0 = λ told. sync told ∙ ap (after_sync bound) base in
     record {
-      makes = λ told. only_makes_twice [] (Sync 0 ∷ []) old bound synced (idle told)
-          (subst (OnlyMakes (Sync 0 ∷ []) bound) (sym (is told)) (sync_makes bound 0));
+      makes = λ told. only_makes_twice [] (Synced 0 ∷ []) old bound synced (idle told)
+          (subst (OnlyMakes (Synced 0 ∷ []) bound) (sym (is told)) (sync_makes bound 0));
       named = λ told. subst (λ (w : World). AreNamed w name 9) (sym (is told)) (named told);
     }
 
 pub same_disk : (tells : Type 0) (old now then : World) (name : List ℕ) → IsNamedDisk tells old now name → (tells → then ≡ now)
     → IsNamedDisk tells old then name
 same_disk tells old now then name disk kept = record {
-  makes = λ told. subst (OnlyMakes (Sync 0 ∷ []) old) (sym (kept told)) (disk.makes told);
+  makes = λ told. subst (OnlyMakes (Synced 0 ∷ []) old) (sym (kept told)) (disk.makes told);
   named = λ told. subst (λ (w : World). AreNamed w name 9) (sym (kept told)) (disk.named told);
 }
 
 module _ (tells : Type 0) (old now : World) (name : List ℕ) (disk : IsNamedDisk tells old now name) where
   pub synced : tells → MakesSome IsBaseSync old now
-  synced told = record { ops = Sync 0 ∷ []; are = refl; makes = disk.makes told }
+  synced told = record { ops = Synced 0 ∷ []; are = refl; makes = disk.makes told }
 
   -- a base that isn't opened was synced
   synced_at : (told : Type 0) (file : List ℕ) (before after : Faults) (why : Halt) → HasBaseCause told file before after why
-      → HaltMakes why (Sync 0 ∷ [])
+      → HaltMakes why (Synced 0 ∷ [])
   synced_at told file before after (halt.BadWords n) cause = absurd cause
   synced_at told file before after halt.ReadFault cause = inr refl
   synced_at told file before after halt.SyncFault cause = absurd cause
@@ -63,10 +63,10 @@ module _ (tells : Type 0) (old now : World) (name : List ℕ) (disk : IsNamedDis
       → IfErr r (HasBaseCause told file before after) → tells → IfErr r (λ why. MakesSome (HaltMakes why) old now)
   halt_makes told file before after (Ok x) cause tell = tt
   halt_makes told file before after (Err why) cause tell =
-      record { ops = Sync 0 ∷ []; are = synced_at told file before after why cause; makes = disk.makes tell }
+      record { ops = Synced 0 ∷ []; are = synced_at told file before after why cause; makes = disk.makes tell }
 
 -- a halt before the sync
-pub idle_makes : (may : List Op → Type 0) (old now : World) → may [] → OnlyMakes [] old now → MakesSome may old now
+pub idle_makes : (may : List Event → Type 0) (old now : World) → may [] → OnlyMakes [] old now → MakesSome may old now
 idle_makes may old now fits idle = record { ops = []; are = fits; makes = idle }
 
 module _ (tells : Type 0) (old now : World) (name : List ℕ) (disk : IsNamedDisk tells old now name) (tied : tells → IsTied now) where

@@ -5,7 +5,8 @@ use Rattle.std.proofs.lemmas.Bool.{false≢true, cases_lt, cases_eq, cond-true, 
 use Rattle.std.proofs.lemmas.List.{same_from_push}
 use Rattle.std.proofs.lemmas.Slice.Eq.{bytes_eq-Decides}
 use Rattle.std.proofs.lemmas.Str.{IsUtf8-append, IsUtf8-from_ascii}
-use Rattle.cckd_shelf.specs.World.{World, Bound, is_name, name_of, held_by, after_bind}
+use Rattle.cckd_shelf.specs.Events.{Bound, is_name, name_of}
+use Rattle.cckd_shelf.specs.World.{World, held_by, after_bind}
 use Rattle.cckd_top.specs.Names.{slot_name}
 use Rattle.cckd_top.specs.World.{AreNamed}
 

@@ -4,8 +4,9 @@ use Rattle.std.proofs.Math.Seq.{take-add, take-length}
 use Rattle.cckd_shelf.specs.declared.fault.Faults.{Faults}
 use Rattle.cckd_shelf.specs.declared.fault.Kind.TheVariants.{Puts}
 use Rattle.cckd_shelf.specs.Faults.{Fails}
-use Rattle.cckd_shelf.specs.World.{World, output_of, file_of, after_put}
-use Rattle.cckd_shelf.specs.declared.op.Op.TheVariants.{Out}
+use Rattle.cckd_shelf.specs.Events.{output_of}
+use Rattle.cckd_shelf.specs.World.{World, file_of, after_put}
+use Rattle.cckd_shelf.specs.Events.{Put}
 use Rattle.cckd_top.specs.World.{KeepsFiles}
 use Rattle.cckd_top.proofs.FaultLemmas.{went_well, fails_then}
 use Rattle.cckd_top.proofs.WorldLemmas.{keeps_files_twice, intact_at_put}
@@ -20,7 +21,7 @@ pub record IsPutSoFar (tells : Type 0) (old now : World) (before after : Faults)
   pub fails : Fails Puts went_well before after
 
 keeps_at_put : (w : World) (bytes : List ℕ) → KeepsFiles w (after_put w bytes)
-keeps_at_put w bytes = record { files = refl; puts = Out bytes ∷ []; only = (tt, tt); made = refl; sure = refl; intact = intact_at_put w bytes }
+keeps_at_put w bytes = record { files = refl; puts = Put bytes ∷ []; only = (tt, tt); made = refl; sure = refl; intact = intact_at_put w bytes }
 
 -- one more piece of it
 pub put_more : (tells : Type 0) (old now next : World) (before after later : Faults) (text : List ℕ) (n m : ℕ)

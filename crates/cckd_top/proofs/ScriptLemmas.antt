@@ -10,7 +10,7 @@ use Rattle.cckd_script.specs.declared.misread.Misreading.TheVariants as misreadi
 use Rattle.cckd_script.specs.Lines.{lines_of, ended_lines, StopsAtLine, HasNoFeed}
 use Rattle.cckd_script.specs.Items.{line_items, items_of_lines, cut_items, script_items}
 use Rattle.cckd_script.proofs.LineLemmas.{lines-append, ended-append, ended_all, stops_more, lines_more, lines_unfed, ended_unfed}
-use Rattle.cckd_top.specs.Lines.{fed, last, IsLine, BreaksOff}
+use Rattle.cckd_lines.specs.Lines.{fed, last, IsLine, BreaksOff}
 
 -- A script was served up to here: these items are those of the lines before, and this is left of it, of which so many bytes are
 -- within the limit. A line without a feed was the last.

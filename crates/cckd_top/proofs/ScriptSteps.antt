@@ -10,7 +10,8 @@ use Rattle.cckd_base.specs.declared.call.Call.TheVariants.{Close}
 use Rattle.cckd_shelf.specs.declared.fault.Failed.{Failed}
 use Rattle.cckd_shelf.specs.declared.fault.Faults.{Faults}
 use Rattle.cckd_shelf.specs.Faults.{Rose, NoneFell}
-use Rattle.cckd_shelf.specs.World.{World, IsSure, output_of, file_of}
+use Rattle.cckd_shelf.specs.Events.{output_of}
+use Rattle.cckd_shelf.specs.World.{World, IsSure, file_of}
 use Rattle.cckd_script.specs.declared.misread.Item.{Item}
 use Rattle.cckd_script.specs.declared.misread.Item.TheVariants.{Asked, Misread}
 use Rattle.cckd_script.specs.declared.misread.Misreading.TheVariants as misreading
@@ -18,18 +19,18 @@ use Rattle.cckd_script.specs.Parse.{parsed}
 use Rattle.cckd_script.specs.Items.{line_items, items_of, script_items}
 use Rattle.cckd_script.specs.Lines.{line_limit}
 use Rattle.cckd_script.specs.Text.{Entry, item_of, entry_text, script_text}
-use Rattle.cckd_top.specs.declared.lines.Place.{Place}
-use Rattle.cckd_top.specs.declared.lines.Next.{Next}
-use Rattle.cckd_top.specs.declared.lines.Next.TheVariants as next
+use Rattle.cckd_lines.specs.declared.lines.Place.{Place}
+use Rattle.cckd_lines.specs.declared.lines.Next.{Next}
+use Rattle.cckd_lines.specs.declared.lines.Next.TheVariants as next
 use Rattle.cckd_top.specs.declared.serving.Stop.TheVariants as stop
-use Rattle.cckd_top.specs.Lines.{IsPlace, IsAtEnd, IsNext, BreaksOff, allowance, pending}
+use Rattle.cckd_lines.specs.Lines.{IsPlace, IsAtEnd, IsNext, BreaksOff, allowance, pending}
 use Rattle.cckd_top.specs.Opening.{IsMounted}
 use Rattle.cckd_top.specs.Serving.{IsLegal, HasServed, Serves, RoseBy, read_faults, worst, items_of_next, is_last, OfAFront, ServesScript}
 use Rattle.cckd_top.specs.World.{KeepsFiles, OnlyTakes, PutsFront}
 use Rattle.cckd_top.proofs.FaultLemmas.{none_fell_twice}
 use Rattle.cckd_top.proofs.ServingLemmas.{rose_twice, rose_by_none, none_fell_same}
 use Rattle.cckd_top.proofs.WorldLemmas.{all_twice, keeps_files_twice, keeps_files_same, takes_keeps, takes_file}
-use Rattle.cckd_top.proofs.Filling.{none_pending}
+use Rattle.cckd_lines.proofs.FillLemmas.{none_pending}
 use Rattle.cckd_top.proofs.ScriptLemmas.{IsReadUpTo, reads_none, reads_on, reads_all, reads_limit, reads_taken, reads_front}
 
 faults_twice : (es fs : List Entry) → read_faults (es ++ fs) ≡ read_faults es + read_faults fs

@@ -6,7 +6,8 @@ use Rattle.cckd_shelf.specs.declared.fault.Failed.{Failed}
 use Rattle.cckd_shelf.specs.declared.fault.Faults.{Faults}
 use Rattle.cckd_shelf.specs.declared.fault.Kind.TheVariants.{Puts}
 use Rattle.cckd_shelf.specs.Faults.{Rose, NoneFell, Fails}
-use Rattle.cckd_shelf.specs.World.{World, output_of, file_of}
+use Rattle.cckd_shelf.specs.Events.{output_of}
+use Rattle.cckd_shelf.specs.World.{World, file_of}
 use Rattle.cckd_script.specs.declared.misread.Item.{Item}
 use Rattle.cckd_script.specs.declared.parse.LineFault.{LineFault}
 use Rattle.cckd_script.specs.declared.parse.What.{What}

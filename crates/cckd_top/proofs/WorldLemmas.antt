@@ -2,10 +2,10 @@
 use Rattle.std.proofs.Common.{◌≡◌, ◌==◌, ℕ, Bool, true, false, cond, refl, sym, ◌∙◌, ap, subst, List, [], ◌∷◌, ◌++◌, Option, Some, None, Result, Ok, Err, OnOk, OnErr, unwrap_or, append_assoc, append-nil}
 use Rattle.std.specs.Prelude.{MatchBool}
 use Rattle.std.specs.List.{AllByRecursion}
-use Rattle.cckd_shelf.specs.declared.op.Op.{Op}
-use Rattle.cckd_shelf.specs.declared.op.Op.TheVariants.{Sync, Out}
+use Rattle.cckd_shelf.specs.Events.{Synced, Put}
 use Rattle.cckd_shelf.specs.declared.fault.Failed.{Failed}
-use Rattle.cckd_shelf.specs.World.{World, Event, Made, Bound, file_now, file_of, is_sure, is_name, name_of, held_by, ops_of, after_bind, after_put, after_sync}
+use Rattle.cckd_shelf.specs.Events.{Event, Bound, file_now, is_sure, is_name, name_of, ops_of}
+use Rattle.cckd_shelf.specs.World.{World, file_of, held_by, after_bind, after_put, after_sync}
 use Rattle.cckd_shelf.specs.Outcomes.{AtEach, IsOutcome}
 use Rattle.cckd_shelf.proofs.MomentLemmas.{at_once, at_end, joins, next_at}
 use Rattle.cckd_shelf.proofs.OutcomeLemmas.{put_step, sync_step}
@@ -17,8 +17,8 @@ all_twice P [] ys f g = g
 all_twice P (x ∷ xs) ys f g = (f.0, all_twice P xs ys f.1 g)
 
 -- operations behind others
-ops_twice : (old between new first second : List Op) → between ≡ old ++ first → new ≡ between ++ second → new ≡ old ++ (first ++ second)
-ops_twice old between new first second f g = g ∙ ap (λ (ops : List Op). ops ++ second) f ∙ append_assoc old first second
+ops_twice : (old between new first second : List Event) → between ≡ old ++ first → new ≡ between ++ second → new ≡ old ++ (first ++ second)
+ops_twice old between new first second f g = g ∙ ap (λ (ops : List Event). ops ++ second) f ∙ append_assoc old first second
 
 -- files that stay intact twice
 pub intact_twice : (a b c : World) → b.files ≡ a.files → StayIntact a b → StayIntact b c → StayIntact a c
@@ -32,12 +32,12 @@ intact_still a b same = λ w here before.
 
 pub intact_at_put : (w : World) (bytes : List ℕ) → StayIntact w (after_put w bytes)
 intact_at_put w bytes = λ v here before.
-    next_at (AreIntact v) w (after_put w bytes) (Made (Out bytes)) refl before
+    next_at (AreIntact v) w (after_put w bytes) (Put bytes) refl before
     (λ slot name named. put_step (λ file. file ≡ held_by v name) slot bytes w.events (before slot name named))
 
 pub intact_at_sync : (w : World) (slot : ℕ) → StayIntact w (after_sync w slot)
 intact_at_sync w slot = λ v here before.
-    next_at (AreIntact v) w (after_sync w slot) (Made (Sync slot)) refl before
+    next_at (AreIntact v) w (after_sync w slot) (Synced slot) refl before
     (λ other name named. sync_step (λ file. file ≡ held_by v name) other slot w.events (before other name named))
 
 -- a slot that gets the file of a name holds it, and another one that loses its name has none
@@ -102,7 +102,7 @@ keeps_files_still a b files events = record {
 pub keeps_files_same : (w : World) → KeepsFiles w w
 keeps_files_same w = keeps_files_still w w refl refl
 
-pub only_makes_twice : (first second : List Op) (a b c : World) → OnlyMakes first a b → OnlyMakes second b c → OnlyMakes (first ++ second) a c
+pub only_makes_twice : (first second : List Event) (a b c : World) → OnlyMakes first a b → OnlyMakes second b c → OnlyMakes (first ++ second) a c
 only_makes_twice first second a b c f g = record {
   files = g.files ∙ f.files;
   made = ops_twice (ops_of a.events) (ops_of b.events) (ops_of c.events) first second f.made g.made;
@@ -113,7 +113,7 @@ only_makes_twice first second a b c f g = record {
 }
 
 -- what is made, and then put
-pub makes_then_puts : (may : List Op → Type 0) (a b c : World) → MakesSome may a b → KeepsFiles b c → MakesThenPuts may a c
+pub makes_then_puts : (may : List Event → Type 0) (a b c : World) → MakesSome may a b → KeepsFiles b c → MakesThenPuts may a c
 makes_then_puts may a b c f g = record {
   files = g.files ∙ f.makes.files;
   ops = f.ops;

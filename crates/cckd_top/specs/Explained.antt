@@ -2,6 +2,7 @@
 use Rattle.std.specs.Prelude.{◌≡◌, ℕ, List, codes}
 use Rattle.cckd_shelf.specs.declared.fault.Faults.{Faults}
 use Rattle.cckd_shelf.specs.Faults.{Rose, NoneFell}
+use Rattle.cckd_shelf.specs.Seen.{Seen, Tells}
 use Rattle.cckd_shelf.specs.World.{World, IsSure}
 use Rattle.cckd_script.specs.Text.{line}
 use Rattle.cckd_top.specs.declared.serving.Stop.{Stop}
@@ -11,7 +12,7 @@ use Rattle.cckd_top.specs.World.{KeepsFiles, MakesThenPuts, IsPrinted}
 
 -- One ending, with its cause in the words, in the files and the script as they were at the start, or in a count of faults that
 -- rose, explains the output and the status; no file is changed, and the base is synced before anything is put.
-pub record IsExplained (tells : Type 0) (before after : World) (faults_before faults_after : Faults) (words : List (List ℕ))
+pub record IsExplainedBy (tells : Type 0) (before after : World) (faults_before faults_after : Faults) (words : List (List ℕ))
     (status : ℕ) : Type 0 where
   pub end : Ending
   pub cause : HasCause tells (tells × IsSure before) before after words faults_before faults_after end
@@ -35,3 +36,15 @@ Finishes tells w w' before after status stop.Unscripted =
     IsPrinted tells w w' (line (codes "fault: source")) 7 (Rose before.puts after.puts) status
     × (tells → KeepsFiles w w') × (tells → w'.script ≡ w.script) × NoneFell before after
 Finishes tells w w' before after status stop.Cut = (tells → w' ≡ w) × (after ≡ before) × (status ≡ 7)
+
+-- The promise itself, of what a stage shows at the start and at the end of a run with these words.
+abbrev pub IsExplained : Seen → Seen → List (List ℕ) → ℕ → Type 0
+IsExplained old new words status = IsExplainedBy (Tells old) old.world new.world old.faults new.faults words status
+
+-- the same of a run on the disk of a file
+abbrev pub ExplainsFile : Seen → Seen → List ℕ → ℕ → Type 0
+ExplainsFile old new name status = IsFileExplained (Tells old) old.world new.world old.faults new.faults name status
+
+-- what is put behind a script, and the status
+abbrev pub Ends : Seen → Seen → ℕ → Stop → Type 0
+Ends old new status end = Finishes (Tells old) old.world new.world old.faults new.faults status end

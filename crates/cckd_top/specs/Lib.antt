@@ -1,7 +1,6 @@
 pub mod Words
 pub mod Names
 pub mod World
-pub mod Lines
 pub mod Opening
 pub mod Lookup
 pub mod Reading

@@ -9,6 +9,8 @@ use Rattle.cckd_base.specs.Survey.{misfits}
 use Rattle.cckd_tables.specs.Scan.{first_misfit}
 use Rattle.cckd_shelf.specs.declared.fault.Faults.{Faults}
 use Rattle.cckd_shelf.specs.Faults.{Rose}
+use Rattle.cckd_shelf.specs.Seen.{Seen, Tells}
+use Rattle.cckd_shelf.specs.World.{IsSure, file_of}
 use Rattle.cckd_top.specs.declared.halt.Halt.{Halt}
 use Rattle.cckd_top.specs.declared.halt.Halt.TheVariants as halt
 
@@ -80,3 +82,10 @@ HasBaseCause told file before after (halt.BadHeader fault) = told → base_fault
 HasBaseCause told file before after (halt.HasMisfit misfit) =
     told → (base_fault file ≡ None) × (first_misfit (misfits (file_layout file) file) ≡ Some misfit)
 HasBaseCause told file before after halt.NotYet = ⊥
+
+-- the same of what a stage shows, over the file in slot 0
+abbrev pub IsSurveyCause : Layout → Seen → Seen → Halt → Type 0
+IsSurveyCause l old new why = HasSurveyCause (Tells old × IsSure old.world) l (file_of old.world 0) old.faults new.faults why
+
+abbrev pub IsBaseCause : Seen → Seen → Halt → Type 0
+IsBaseCause old new why = HasBaseCause (Tells old × IsSure old.world) (file_of old.world 0) old.faults new.faults why

@@ -2,10 +2,10 @@
 use Rattle.std.specs.Prelude.{◌≡◌, ◌⊎◌, ⊤, ℕ, List, [], ◌∷◌, ◌++◌, codes, Some, None}
 use Rattle.cckd_base.specs.declared.geometry.Layout.{Layout}
 use Rattle.cckd_shelf.specs.declared.fault.Faults.{Faults}
-use Rattle.cckd_shelf.specs.declared.op.Op.{Op}
-use Rattle.cckd_shelf.specs.declared.op.Op.TheVariants.{Sync}
+use Rattle.cckd_shelf.specs.Events.{Event, Synced, output_of}
 use Rattle.cckd_shelf.specs.Faults.{Rose}
-use Rattle.cckd_shelf.specs.World.{World, held_by, output_of}
+use Rattle.cckd_shelf.specs.Seen.{Seen, Tells}
+use Rattle.cckd_shelf.specs.World.{World, IsSure, held_by}
 use Rattle.cckd_script.specs.Text.{Entry, script_text, line}
 use Rattle.cckd_top.specs.declared.halt.Halt.{Halt}
 use Rattle.cckd_top.specs.declared.halt.Halt.TheVariants as halt
@@ -96,12 +96,12 @@ HasPut tells w w' puts_rose status (cut entries) =
     (tells → PutsFront w w' (ending_text (cut entries))) × puts_rose × (status ≡ ending_status (cut entries))
 
 -- the one operation of a mounting: the base is synced before it is looked at
-abbrev pub IsBaseSync : List Op → Type 0
-IsBaseSync ops = ops ≡ Sync 0 ∷ []
+abbrev pub IsBaseSync : List Event → Type 0
+IsBaseSync ops = ops ≡ Synced 0 ∷ []
 
 -- What is done before a halt. The sync isn't made where the words are wrong or where it failed, and a fault of reading may
 -- be met before it or behind it.
-abbrev pub HaltMakes : Halt → List Op → Type 0
+abbrev pub HaltMakes : Halt → List Event → Type 0
 HaltMakes (halt.BadWords n) ops = ops ≡ []
 HaltMakes halt.ReadFault ops = (ops ≡ []) ⊎ IsBaseSync ops
 HaltMakes halt.SyncFault ops = ops ≡ []
@@ -111,8 +111,12 @@ HaltMakes (halt.HasMisfit misfit) ops = IsBaseSync ops
 HaltMakes halt.NotYet ops = IsBaseSync ops
 
 -- what is done before the first byte is put
-abbrev pub EndingMakes : Ending → List Op → Type 0
+abbrev pub EndingMakes : Ending → List Event → Type 0
 EndingMakes (halted why) ops = HaltMakes why ops
 EndingMakes (closed entries) ops = IsBaseSync ops
 EndingMakes (unscripted entries) ops = IsBaseSync ops
 EndingMakes (cut entries) ops = IsBaseSync ops
+
+-- why a run on the files of this name halts, by what a stage shows
+abbrev pub IsHaltCause : List ℕ → Seen → Seen → Halt → Type 0
+IsHaltCause name old new why = HasHaltCause (Tells old × IsSure old.world) old.world name old.faults new.faults why

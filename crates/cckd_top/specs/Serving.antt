@@ -11,15 +11,17 @@ use Rattle.cckd_base.specs.declared.reply.Refusal.TheVariants as refusal
 use Rattle.cckd_shelf.specs.declared.fault.Failed.{Failed}
 use Rattle.cckd_shelf.specs.declared.fault.Faults.{Faults}
 use Rattle.cckd_shelf.specs.Faults.{Rose, NoneFell}
-use Rattle.cckd_shelf.specs.World.{World, output_of, file_of}
+use Rattle.cckd_shelf.specs.Events.{output_of}
+use Rattle.cckd_shelf.specs.Seen.{Seen, Tells}
+use Rattle.cckd_shelf.specs.World.{World, IsSure, file_of}
 use Rattle.cckd_script.specs.declared.misread.Item.{Item}
 use Rattle.cckd_script.specs.declared.misread.Item.TheVariants.{Misread}
 use Rattle.cckd_script.specs.declared.misread.Misreading.TheVariants as misreading
 use Rattle.cckd_script.specs.Lines.{ended_lines}
 use Rattle.cckd_script.specs.Items.{line_items, items_of_lines, script_items}
 use Rattle.cckd_script.specs.Text.{Entry, answered, misread, item_of, script_text}
-use Rattle.cckd_top.specs.declared.lines.Next.{Next}
-use Rattle.cckd_top.specs.declared.lines.Next.TheVariants as next
+use Rattle.cckd_lines.specs.declared.lines.Next.{Next}
+use Rattle.cckd_lines.specs.declared.lines.Next.TheVariants as next
 use Rattle.cckd_top.specs.declared.serving.Stop.{Stop}
 use Rattle.cckd_top.specs.declared.serving.Stop.TheVariants as stop
 use Rattle.cckd_top.specs.Reading.{AnswersRead, reply_faults}
@@ -141,3 +143,12 @@ pub record ServesScript (tells told : Type 0) (l : Layout) (file : List ℕ) (li
   pub stops : StopsBy tells limit w w' before after entries end
   pub files : tells → KeepsFiles w w'
   pub fell : NoneFell before after
+
+-- the same of what a stage shows, over the file in slot 0
+abbrev pub ServesItems : Layout → Seen → Seen → List Item → Result ℕ Failed → Type 0
+ServesItems l old new items result =
+    Serves (Tells old) (Tells old × IsSure old.world) l (file_of old.world 0) old.world new.world old.faults new.faults items result
+
+abbrev pub ServesWhole : Layout → ℕ → Seen → Seen → Stop → Type 0
+ServesWhole l limit old new end =
+    ServesScript (Tells old) (Tells old × IsSure old.world) l (file_of old.world 0) limit old.world new.world old.faults new.faults end

@@ -1,20 +1,23 @@
 -- What a run that only reads may do to the outside.
 use Rattle.std.specs.Prelude.{◌≡◌, ◌<◌, ⊤, ℕ, zero, suc, Bool, false, ◌||◌, List, ◌++◌, take, Some}
 use Rattle.std.specs.List.{AllByRecursion}
-use Rattle.cckd_shelf.specs.declared.op.Op.{Op}
-use Rattle.cckd_shelf.specs.declared.op.Op.TheVariants.{Write, Torn, Cut, Sync, Out}
-use Rattle.cckd_shelf.specs.World.{World, Event, ops_of, is_sure, output_of, name_of, file_of, held_by}
+use Rattle.cckd_shelf.specs.Events.{Event, Written, Torn, Cut, HalfCut, Synced, Put, Bound, ops_of, is_sure, output_of, name_of}
+use Rattle.cckd_shelf.specs.Faults.{Rose}
+use Rattle.cckd_shelf.specs.Seen.{Seen, Tells}
+use Rattle.cckd_shelf.specs.World.{World, file_of, held_by}
 use Rattle.cckd_shelf.specs.Outcomes.{EachOutcome, AtEach}
 use Rattle.cckd_base.specs.Header.{is_present}
 use Rattle.cckd_top.specs.Names.{slot_name}
 
 -- an operation that puts bytes out, and asks nothing of the disk
-abbrev pub IsOutput : Op → Type 0
-IsOutput (Write slot position bytes) = ⊥
+abbrev pub IsOutput : Event → Type 0
+IsOutput (Written slot position bytes) = ⊥
 IsOutput (Torn slot position bytes) = ⊥
 IsOutput (Cut slot len) = ⊥
-IsOutput (Sync slot) = ⊥
-IsOutput (Out bytes) = ⊤
+IsOutput (HalfCut slot len) = ⊥
+IsOutput (Synced slot) = ⊥
+IsOutput (Put bytes) = ⊤
+IsOutput (Bound slot name bytes) = ⊥
 
 -- whatever a stop leaves, each slot that has a name holds what the name held in this world
 abbrev pub AreIntact : World → List Event → Type 0
@@ -27,19 +30,14 @@ StayIntact old new = (w : World) → w.files ≡ old.files → AreIntact w old.e
 -- no file is made or changed, and the disk is asked for nothing but to read
 pub record KeepsFiles (old new : World) : Type 0 where
   pub files : new.files ≡ old.files
-  pub puts : List Op
+  pub puts : List Event
   pub only : AllByRecursion IsOutput puts
   pub made : ops_of new.events ≡ ops_of old.events ++ puts
   pub sure : is_sure new.events ≡ is_sure old.events
   pub intact : StayIntact old new
 
--- a part of the script is taken, and nothing else happens
-pub record OnlyTakes (old new : World) : Type 0 where
-  pub files : new.files ≡ old.files
-  pub events : new.events ≡ old.events
-
 -- these operations are made, which put nothing and change no file, and nothing of the script is taken
-pub record OnlyMakes (ops : List Op) (old new : World) : Type 0 where
+pub record OnlyMakes (ops : List Event) (old new : World) : Type 0 where
   pub files : new.files ≡ old.files
   pub made : ops_of new.events ≡ ops_of old.events ++ ops
   pub silent : output_of new.events ≡ output_of old.events
@@ -48,17 +46,17 @@ pub record OnlyMakes (ops : List Op) (old new : World) : Type 0 where
   pub intact : StayIntact old new
 
 -- the same, where it is only known of the operations what may be made
-pub record MakesSome (may : List Op → Type 0) (old new : World) : Type 0 where
-  pub ops : List Op
+pub record MakesSome (may : List Event → Type 0) (old new : World) : Type 0 where
+  pub ops : List Event
   pub are : may ops
   pub makes : OnlyMakes ops old new
 
 -- no file is made or changed: all that is done are these operations, and then bytes are put
-pub record MakesThenPuts (may : List Op → Type 0) (old new : World) : Type 0 where
+pub record MakesThenPuts (may : List Event → Type 0) (old new : World) : Type 0 where
   pub files : new.files ≡ old.files
-  pub ops : List Op
+  pub ops : List Event
   pub are : may ops
-  pub puts : List Op
+  pub puts : List Event
   pub only : AllByRecursion IsOutput puts
   pub made : ops_of new.events ≡ ops_of old.events ++ (ops ++ puts)
   pub sure : is_sure new.events ≡ is_sure old.events
@@ -89,3 +87,7 @@ pub data IsPrinted (tells : Type 0) (old new : World) (text : List ℕ) (code : 
       → IsPrinted tells old new text code puts_rose status
   cut_short : (tells → PutsFront old new text) → puts_rose → status ≡ 7
       → IsPrinted tells old new text code puts_rose status
+
+-- the same of what a stage shows, by the count of failed puts
+abbrev pub Prints : Seen → Seen → List ℕ → ℕ → ℕ → Type 0
+Prints old new text code status = IsPrinted (Tells old) old.world new.world text code (Rose old.faults.puts new.faults.puts) status

@@ -1,14 +1,13 @@
 //! A line of the script, from its bytes to the line that is printed for it.
 
 ghost use Rattle.std.specs.Prelude.{◌≡◌, ◌≤◌, [], ◌∷◌, length, take};
+ghost use Rattle.cckd_shelf.specs.Seen.{seen, Tells};
 ghost use Rattle.cckd_shelf.specs.World.{IsSure, file_of};
 ghost use Rattle.cckd_base.specs.Geometry.{IsLayout};
-ghost use Rattle.cckd_script.specs.Items.{items_of, line_items};
+ghost use Rattle.cckd_script.specs.Items.{line_items};
 ghost use Rattle.cckd_script.specs.declared.misread.Item.TheVariants as items;
-ghost use Rattle.cckd_script.specs.Parse.{parsed};
 ghost use Rattle.cckd_top.specs.Opening.{IsMounted};
-ghost use Rattle.cckd_top.specs.Reading.{IsReadReply};
-ghost use Rattle.cckd_top.specs.Serving.{Serves, reply_status};
+ghost use Rattle.cckd_top.specs.Serving.{ServesItems, reply_status};
 
 use crate::reading::read_at;
 use crate::sink::put_all;
@@ -40,11 +39,10 @@ fn answer_read<T: Stage>(
 ) -> Result<u8, Failed>
     requires base { base ≡ 0 }
     requires layout { IsLayout l.now }
-    requires mounted { T.tells → IsSure (T.world stage.old) → IsMounted l.now (file_of (T.world stage.old) 0) }
+    requires mounted { Tells (seen T.Shows stage.old) → IsSure (seen T.Shows stage.old).world → IsMounted l.now (file_of (seen T.Shows stage.old).world 0) }
     requires track { 65536 ≤ length track.old }
     requires output { LINE_ROOM ≤ length output.old }
-    ensures { Serves T.tells (T.tells × IsSure (T.world stage.old)) l.now (file_of (T.world stage.old) 0)
-        (T.world stage.old) (T.world stage.new) (T.faults stage.old) (T.faults stage.new) (items.Asked (Call.Read at) ∷ []) result }
+    ensures { ServesItems l.now (seen T.Shows stage.old) (seen T.Shows stage.new) (items.Asked (Call.Read at) ∷ []) result }
 {
     let reply = read_at(stage, base, l, at, track);
     let end = print_reply(Call::Read { at }, &reply, track, output);
@@ -57,8 +55,7 @@ fn answer_read<T: Stage>(
 /// Prints the reply to the call that ends a run. The answer is its status.
 pub fn close<T: Stage>(stage: &mut T, l: &Layout, output: &mut [u8]) -> Result<u8, Failed>
     requires output { LINE_ROOM ≤ length output.old }
-    ensures { Serves T.tells (T.tells × IsSure (T.world stage.old)) l.now (file_of (T.world stage.old) 0)
-        (T.world stage.old) (T.world stage.new) (T.faults stage.old) (T.faults stage.new) (items.Asked Call.Close ∷ []) result }
+    ensures { ServesItems l.now (seen T.Shows stage.old) (seen T.Shows stage.new) (items.Asked Call.Close ∷ []) result }
 {
     let end = print_reply(Call::Close, &Reply::Closed, &[], output);
     let Ok(()) = put_all(stage, &output[..end as usize]) else {
@@ -75,8 +72,7 @@ pub fn refuse<T: Stage>(
     output: &mut [u8],
 ) -> Result<u8, Failed>
     requires output { LINE_ROOM ≤ length output.old }
-    ensures { Serves T.tells (T.tells × IsSure (T.world stage.old)) l.now (file_of (T.world stage.old) 0)
-        (T.world stage.old) (T.world stage.new) (T.faults stage.old) (T.faults stage.new) (items.Misread why ∷ []) result }
+    ensures { ServesItems l.now (seen T.Shows stage.old) (seen T.Shows stage.new) (items.Misread why ∷ []) result }
 {
     let end = print_misreading(why, output);
     let Ok(()) = put_all(stage, &output[..end as usize]) else {
@@ -96,11 +92,10 @@ fn answer<T: Stage>(
 ) -> Result<u8, Failed>
     requires base { base ≡ 0 }
     requires layout { IsLayout l.now }
-    requires mounted { T.tells → IsSure (T.world stage.old) → IsMounted l.now (file_of (T.world stage.old) 0) }
+    requires mounted { Tells (seen T.Shows stage.old) → IsSure (seen T.Shows stage.old).world → IsMounted l.now (file_of (seen T.Shows stage.old).world 0) }
     requires track { 65536 ≤ length track.old }
     requires output { LINE_ROOM ≤ length output.old }
-    ensures { Serves T.tells (T.tells × IsSure (T.world stage.old)) l.now (file_of (T.world stage.old) 0)
-        (T.world stage.old) (T.world stage.new) (T.faults stage.old) (T.faults stage.new) (items.Asked call ∷ []) result }
+    ensures { ServesItems l.now (seen T.Shows stage.old) (seen T.Shows stage.new) (items.Asked call ∷ []) result }
 {
     match call {
         Call::Read { at } => answer_read(stage, base, l, at, track, output),
@@ -119,12 +114,11 @@ pub fn answer_line<T: Stage>(
 ) -> Result<u8, Failed>
     requires base { base ≡ 0 }
     requires layout { IsLayout l.now }
-    requires mounted { T.tells → IsSure (T.world stage.old) → IsMounted l.now (file_of (T.world stage.old) 0) }
+    requires mounted { Tells (seen T.Shows stage.old) → IsSure (seen T.Shows stage.old).world → IsMounted l.now (file_of (seen T.Shows stage.old).world 0) }
     requires line { length line.now ≤ LINE_LIMIT }
     requires track { 65536 ≤ length track.old }
     requires output { LINE_ROOM ≤ length output.old }
-    ensures { Serves T.tells (T.tells × IsSure (T.world stage.old)) l.now (file_of (T.world stage.old) 0)
-        (T.world stage.old) (T.world stage.new) (T.faults stage.old) (T.faults stage.new) (line_items line.now) result }
+    ensures { ServesItems l.now (seen T.Shows stage.old) (seen T.Shows stage.new) (line_items line.now) result }
 {
     match parse_line(line) {
         Ok(What::Nothing) => Ok(0),

@@ -3,7 +3,6 @@
 
 mod answering;
 mod halt;
-mod lines;
 mod lookup;
 mod mounting;
 mod names;

@@ -1,7 +1,7 @@
 //! The entry of a track in the two-level tables.
 
 ghost use Rattle.std.specs.Prelude.{◌≡◌, ◌+◌, ◌*◌, ◌/◌, ◌<◌, ◌≤◌, length, IfOk};
-ghost use Rattle.cckd_shelf.specs.Faults.{Fails, Called};
+ghost use Rattle.cckd_shelf.specs.Seen.{seen, Tells, Stays, Fails, Called};
 ghost use Rattle.cckd_shelf.specs.declared.fault.Kind.TheVariants.{Reads};
 ghost use Rattle.cckd_shelf.specs.World.{IsSure, file_of};
 ghost use Rattle.cckd_base.specs.Geometry.{track_count, IsLayout};
@@ -15,13 +15,13 @@ use cckd_shelf::{Failed, Slot, Stage};
 /// The level-one word of a group.
 fn word_of<T: Stage>(stage: &mut T, base: Slot, l: &Layout, group: u32) -> Result<u32, Failed>
     requires base { base ≡ 0 }
-    requires mounted { T.tells → IsSure (T.world stage.old) → IsMounted l.now (file_of (T.world stage.old) 0) }
+    requires mounted { Tells (seen T.Shows stage.old) → IsSure (seen T.Shows stage.old).world → IsMounted l.now (file_of (seen T.Shows stage.old).world 0) }
     requires group { group < l.now.groups }
-    ensures word { T.tells → IsSure (T.world stage.old)
-        → IfOk result (λ word. word ≡ word_at l.now (file_of (T.world stage.old) 0) group) }
-    ensures kept { T.tells → T.world stage.new ≡ T.world stage.old }
-    ensures fails { Fails Reads result (T.faults stage.old) (T.faults stage.new) }
-    ensures called { Called (T.calls stage.old) (T.calls stage.new) }
+    ensures word { Tells (seen T.Shows stage.old) → IsSure (seen T.Shows stage.old).world
+        → IfOk result (λ word. word ≡ word_at l.now (file_of (seen T.Shows stage.old).world 0) group) }
+    ensures kept { Stays (seen T.Shows stage.old) (seen T.Shows stage.new) }
+    ensures fails { Fails Reads result (seen T.Shows stage.old) (seen T.Shows stage.new) }
+    ensures called { Called (seen T.Shows stage.old) (seen T.Shows stage.new) }
 {
     let mut bytes = [0; 4];
     stage.read(base, u64::from(WORDS_AT) + 4 * u64::from(group), &mut bytes)?;
@@ -37,12 +37,12 @@ fn entry_in<T: Stage>(
     t: Track,
 ) -> Result<L2Entry, Failed>
     requires base { base ≡ 0 }
-    requires table { T.tells → IsSure (T.world stage.old) → table + 2048 ≤ length (file_of (T.world stage.old) 0) }
-    ensures entry { T.tells → IsSure (T.world stage.old)
-        → IfOk result (λ e. e ≡ entry_in_table l.now (file_of (T.world stage.old) 0) table t.0) }
-    ensures kept { T.tells → T.world stage.new ≡ T.world stage.old }
-    ensures fails { Fails Reads result (T.faults stage.old) (T.faults stage.new) }
-    ensures called { Called (T.calls stage.old) (T.calls stage.new) }
+    requires table { Tells (seen T.Shows stage.old) → IsSure (seen T.Shows stage.old).world → table + 2048 ≤ length (file_of (seen T.Shows stage.old).world 0) }
+    ensures entry { Tells (seen T.Shows stage.old) → IsSure (seen T.Shows stage.old).world
+        → IfOk result (λ e. e ≡ entry_in_table l.now (file_of (seen T.Shows stage.old).world 0) table t.0) }
+    ensures kept { Stays (seen T.Shows stage.old) (seen T.Shows stage.new) }
+    ensures fails { Fails Reads result (seen T.Shows stage.old) (seen T.Shows stage.new) }
+    ensures called { Called (seen T.Shows stage.old) (seen T.Shows stage.new) }
 {
     let mut bytes = [0; 8];
     stage.read(
@@ -79,13 +79,13 @@ pub fn entry_of<T: Stage>(
 ) -> Result<L2Entry, Failed>
     requires base { base ≡ 0 }
     requires layout { IsLayout l.now }
-    requires mounted { T.tells → IsSure (T.world stage.old) → IsMounted l.now (file_of (T.world stage.old) 0) }
+    requires mounted { Tells (seen T.Shows stage.old) → IsSure (seen T.Shows stage.old).world → IsMounted l.now (file_of (seen T.Shows stage.old).world 0) }
     requires track { t.0 < track_count l.now.geo }
-    ensures entry { T.tells → IsSure (T.world stage.old)
-        → IfOk result (λ e. e ≡ entry_at l.now (file_of (T.world stage.old) 0) t.0) }
-    ensures kept { T.tells → T.world stage.new ≡ T.world stage.old }
-    ensures fails { Fails Reads result (T.faults stage.old) (T.faults stage.new) }
-    ensures called { T.calls stage.new ≤ T.calls stage.old + 2 }
+    ensures entry { Tells (seen T.Shows stage.old) → IsSure (seen T.Shows stage.old).world
+        → IfOk result (λ e. e ≡ entry_at l.now (file_of (seen T.Shows stage.old).world 0) t.0) }
+    ensures kept { Stays (seen T.Shows stage.old) (seen T.Shows stage.new) }
+    ensures fails { Fails Reads result (seen T.Shows stage.old) (seen T.Shows stage.new) }
+    ensures called { (seen T.Shows stage.new).calls ≤ (seen T.Shows stage.old).calls + 2 }
 {
     let word = word_of(stage, base, l, t.0 / GROUP_TRACKS)?;
     match entry_of_all(l, word) {

@@ -1,14 +1,15 @@
 //! The mounting of a disk's base.
 
 ghost use Rattle.std.specs.Prelude.{◌≡◌, ◌≤◌, IsTrue, IfOk, IfErr, OnOk, ◌++◌, min, length, take, drop};
-ghost use Rattle.cckd_shelf.specs.Faults.{Fails, NoneFell};
+ghost use Rattle.cckd_shelf.specs.Seen.{seen, Tells, Stays, Fails};
+ghost use Rattle.cckd_shelf.specs.Faults.{NoneFell};
 ghost use Rattle.cckd_shelf.specs.declared.fault.Kind.TheVariants.{Reads};
 ghost use Rattle.cckd_shelf.specs.World.{IsSure, file_of, held_by};
 ghost use Rattle.cckd_base.specs.Geometry.{area_of, IsLayout};
-ghost use Rattle.cckd_top.specs.Opening.{IsMounted, IsBaseOf, HasSoundHeaders, HasBaseCause, HasSurveyCause};
+ghost use Rattle.cckd_top.specs.Opening.{IsMounted, IsBaseOf, HasSoundHeaders, IsBaseCause, IsSurveyCause};
 ghost use Rattle.cckd_base.specs.Survey.{HasNoMisfit};
 ghost use Rattle.cckd_top.specs.Opening.{ready};
-ghost use Rattle.cckd_top.specs.Run.{HasHaltCause, HaltMakes, IsBaseSync, opening_in};
+ghost use Rattle.cckd_top.specs.Run.{IsHaltCause, HaltMakes, IsBaseSync, opening_in};
 ghost use Rattle.cckd_top.specs.Words.{is_file_word};
 ghost use Rattle.cckd_top.specs.World.{MakesSome};
 
@@ -35,12 +36,12 @@ fn front_of(len: u64) -> usize
 fn read_headers<T: Stage>(stage: &mut T, base: Slot, headers: &mut [u8]) -> Result<u64, Failed>
     requires base { base ≡ 0 }
     requires room { length headers.old ≡ HEADERS }
-    ensures headers { T.tells → IsSure (T.world stage.old) → OnOk result (headers.new
-        ≡ take HEADERS (file_of (T.world stage.old) 0) ++ drop (length (file_of (T.world stage.old) 0)) headers.old) }
-    ensures length { T.tells → IsSure (T.world stage.old)
-        → IfOk result (λ len. len ≡ length (file_of (T.world stage.old) 0)) }
-    ensures kept { T.tells → T.world stage.new ≡ T.world stage.old }
-    ensures fails { Fails Reads result (T.faults stage.old) (T.faults stage.new) }
+    ensures headers { Tells (seen T.Shows stage.old) → IsSure (seen T.Shows stage.old).world → OnOk result (headers.new
+        ≡ take HEADERS (file_of (seen T.Shows stage.old).world 0) ++ drop (length (file_of (seen T.Shows stage.old).world 0)) headers.old) }
+    ensures length { Tells (seen T.Shows stage.old) → IsSure (seen T.Shows stage.old).world
+        → IfOk result (λ len. len ≡ length (file_of (seen T.Shows stage.old).world 0)) }
+    ensures kept { Stays (seen T.Shows stage.old) (seen T.Shows stage.new) }
+    ensures fails { Fails Reads result (seen T.Shows stage.old) (seen T.Shows stage.new) }
 {
     let len = stage.len(base)?;
     stage.read(base, 0, &mut headers[..front_of(len)])?;
@@ -58,13 +59,12 @@ fn survey<T: Stage>(
     requires base { base ≡ 0 }
     requires layout { IsLayout l }
     requires area { area_of l.groups ≤ len }
-    requires length { T.tells → IsSure (T.world stage.old) → len ≡ length (file_of (T.world stage.old) 0) }
+    requires length { Tells (seen T.Shows stage.old) → IsSure (seen T.Shows stage.old).world → len ≡ length (file_of (seen T.Shows stage.old).world 0) }
     ensures layout { IfOk result (λ found. found ≡ l) }
-    ensures clean { T.tells → IsSure (T.world stage.old) → OnOk result (HasNoMisfit l (file_of (T.world stage.old) 0)) }
-    ensures cause { IfErr result (HasSurveyCause (T.tells × IsSure (T.world stage.old)) l (file_of (T.world stage.old) 0)
-        (T.faults stage.old) (T.faults stage.new)) }
-    ensures kept { T.tells → T.world stage.new ≡ T.world stage.old }
-    ensures fell { NoneFell (T.faults stage.old) (T.faults stage.new) }
+    ensures clean { Tells (seen T.Shows stage.old) → IsSure (seen T.Shows stage.old).world → OnOk result (HasNoMisfit l (file_of (seen T.Shows stage.old).world 0)) }
+    ensures cause { IfErr result (IsSurveyCause l (seen T.Shows stage.old) (seen T.Shows stage.new)) }
+    ensures kept { Stays (seen T.Shows stage.old) (seen T.Shows stage.new) }
+    ensures fell { NoneFell (seen T.Shows stage.old).faults (seen T.Shows stage.new).faults }
 {
     match scan(alloc, stage, base, &l, len) {
         Ok(_) => Ok(l),
@@ -79,12 +79,11 @@ fn base_layout<T: Stage>(stage: &mut T, base: Slot) -> Result<(Layout, u32), Hal
     requires { base ≡ 0 }
     ensures layout { IfOk result (λ found. IsLayout found.0) }
     ensures area { IfOk result (λ found. area_of found.0.groups ≤ found.1) }
-    ensures sound { T.tells → IsSure (T.world stage.old)
-        → IfOk result (λ found. HasSoundHeaders (file_of (T.world stage.old) 0) found.0 found.1) }
-    ensures cause { IfErr result (HasBaseCause (T.tells × IsSure (T.world stage.old)) (file_of (T.world stage.old) 0)
-        (T.faults stage.old) (T.faults stage.new)) }
-    ensures kept { T.tells → T.world stage.new ≡ T.world stage.old }
-    ensures fell { NoneFell (T.faults stage.old) (T.faults stage.new) }
+    ensures sound { Tells (seen T.Shows stage.old) → IsSure (seen T.Shows stage.old).world
+        → IfOk result (λ found. HasSoundHeaders (file_of (seen T.Shows stage.old).world 0) found.0 found.1) }
+    ensures cause { IfErr result (IsBaseCause (seen T.Shows stage.old) (seen T.Shows stage.new)) }
+    ensures kept { Stays (seen T.Shows stage.old) (seen T.Shows stage.new) }
+    ensures fell { NoneFell (seen T.Shows stage.old).faults (seen T.Shows stage.new).faults }
 {
     let mut headers = [0; HEADERS];
     let Ok(len) = read_headers(stage, base, &mut headers) else {
@@ -100,11 +99,10 @@ fn base_layout<T: Stage>(stage: &mut T, base: Slot) -> Result<(Layout, u32), Hal
 fn open_base<T: Stage>(stage: &mut T, alloc: Global, base: Slot) -> Result<Layout, Halt>
     requires { base ≡ 0 }
     ensures layout { IfOk result IsLayout }
-    ensures opened { T.tells → IsSure (T.world stage.old) → IfOk result (IsBaseOf (file_of (T.world stage.old) 0)) }
-    ensures cause { IfErr result (HasBaseCause (T.tells × IsSure (T.world stage.old)) (file_of (T.world stage.old) 0)
-        (T.faults stage.old) (T.faults stage.new)) }
-    ensures kept { T.tells → T.world stage.new ≡ T.world stage.old }
-    ensures fell { NoneFell (T.faults stage.old) (T.faults stage.new) }
+    ensures opened { Tells (seen T.Shows stage.old) → IsSure (seen T.Shows stage.old).world → IfOk result (IsBaseOf (file_of (seen T.Shows stage.old).world 0)) }
+    ensures cause { IfErr result (IsBaseCause (seen T.Shows stage.old) (seen T.Shows stage.new)) }
+    ensures kept { Stays (seen T.Shows stage.old) (seen T.Shows stage.new) }
+    ensures fell { NoneFell (seen T.Shows stage.old).faults (seen T.Shows stage.new).faults }
 {
     match base_layout(stage, base) {
         Ok((layout, len)) => survey(stage, alloc, base, layout, len),
@@ -117,15 +115,14 @@ pub fn mount<T: Stage>(stage: &mut T, alloc: Global, base: Slot, file: &str) -> 
     requires base { base ≡ 0 }
     requires file { IsTrue (is_file_word file.now) }
     ensures layout { IfOk result IsLayout }
-    ensures opened { T.tells → IsSure (T.world stage.old)
-        → IfOk result (λ l. opening_in (T.world stage.old) file.now ≡ ready l) }
-    ensures mounted { T.tells → IsSure (T.world stage.old) → IfOk result (λ l. IsMounted l (file_of (T.world stage.new) 0)) }
-    ensures base { T.tells → OnOk result (file_of (T.world stage.new) 0 ≡ held_by (T.world stage.old) file.now) }
-    ensures cause { IfErr result (HasHaltCause (T.tells × IsSure (T.world stage.old)) (T.world stage.old) file.now
-        (T.faults stage.old) (T.faults stage.new)) }
-    ensures synced { T.tells → OnOk result (MakesSome IsBaseSync (T.world stage.old) (T.world stage.new)) }
-    ensures makes { T.tells → IfErr result (λ why. MakesSome (HaltMakes why) (T.world stage.old) (T.world stage.new)) }
-    ensures fell { NoneFell (T.faults stage.old) (T.faults stage.new) }
+    ensures opened { Tells (seen T.Shows stage.old) → IsSure (seen T.Shows stage.old).world
+        → IfOk result (λ l. opening_in (seen T.Shows stage.old).world file.now ≡ ready l) }
+    ensures mounted { Tells (seen T.Shows stage.old) → IsSure (seen T.Shows stage.old).world → IfOk result (λ l. IsMounted l (file_of (seen T.Shows stage.new).world 0)) }
+    ensures base { Tells (seen T.Shows stage.old) → OnOk result (file_of (seen T.Shows stage.new).world 0 ≡ held_by (seen T.Shows stage.old).world file.now) }
+    ensures cause { IfErr result (IsHaltCause file.now (seen T.Shows stage.old) (seen T.Shows stage.new)) }
+    ensures synced { Tells (seen T.Shows stage.old) → OnOk result (MakesSome IsBaseSync (seen T.Shows stage.old).world (seen T.Shows stage.new).world) }
+    ensures makes { Tells (seen T.Shows stage.old) → IfErr result (λ why. MakesSome (HaltMakes why) (seen T.Shows stage.old).world (seen T.Shows stage.new).world) }
+    ensures fell { NoneFell (seen T.Shows stage.old).faults (seen T.Shows stage.new).faults }
 {
     let Ok(()) = bind_all(stage, file) else {
         return Err(Halt::ReadFault);

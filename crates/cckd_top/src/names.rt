@@ -1,7 +1,7 @@
 //! The names of a disk's files, and the slots that get them.
 
 ghost use Rattle.std.specs.Prelude.{◌≡◌, ◌+◌, ◌<◌, ◌≤◌, [], length, take, IsTrue, OnOk};
-ghost use Rattle.cckd_shelf.specs.Faults.{Fails};
+ghost use Rattle.cckd_shelf.specs.Seen.{seen, Tells, Fails};
 ghost use Rattle.cckd_shelf.specs.declared.fault.Kind.TheVariants.{Reads};
 ghost use Rattle.cckd_shelf.specs.World.{after_bind};
 ghost use Rattle.cckd_top.specs.Names.{slot_name};
@@ -30,10 +30,10 @@ fn put_shadow_name(file: &str, slot: u8, room: &mut [u8]) -> usize
 /// Gives a slot its file.
 fn bind<T: Stage>(stage: &mut T, slot: Slot, file: &str) -> Result<(), Failed>
     requires { IsTrue (is_file_word file.now) }
-    ensures bound { T.tells → OnOk result
-        (T.world stage.new ≡ after_bind (T.world stage.old) slot (slot_name file.now slot)) }
-    ensures idle { T.tells → OnlyMakes [] (T.world stage.old) (T.world stage.new) }
-    ensures fails { Fails Reads result (T.faults stage.old) (T.faults stage.new) }
+    ensures bound { Tells (seen T.Shows stage.old) → OnOk result
+        ((seen T.Shows stage.new).world ≡ after_bind (seen T.Shows stage.old).world slot (slot_name file.now slot)) }
+    ensures idle { Tells (seen T.Shows stage.old) → OnlyMakes [] (seen T.Shows stage.old).world (seen T.Shows stage.new).world }
+    ensures fails { Fails Reads result (seen T.Shows stage.old) (seen T.Shows stage.new) }
 {
     let number = slot.get();
     if number == 0 {
@@ -50,9 +50,9 @@ fn bind<T: Stage>(stage: &mut T, slot: Slot, file: &str) -> Result<(), Failed>
 /// Gives the nine slots their files.
 pub fn bind_all<T: Stage>(stage: &mut T, file: &str) -> Result<(), Failed>
     requires { IsTrue (is_file_word file.now) }
-    ensures named { T.tells → OnOk result (AreNamed (T.world stage.new) file.now 9) }
-    ensures idle { T.tells → OnlyMakes [] (T.world stage.old) (T.world stage.new) }
-    ensures fails { Fails Reads result (T.faults stage.old) (T.faults stage.new) }
+    ensures named { Tells (seen T.Shows stage.old) → OnOk result (AreNamed (seen T.Shows stage.new).world file.now 9) }
+    ensures idle { Tells (seen T.Shows stage.old) → OnlyMakes [] (seen T.Shows stage.old).world (seen T.Shows stage.new).world }
+    ensures fails { Fails Reads result (seen T.Shows stage.old) (seen T.Shows stage.new) }
 {
     for number in 0..9u8 {
         let slot = Slot::new(number).unwrap();

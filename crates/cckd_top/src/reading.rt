@@ -1,7 +1,8 @@
 //! One track of a base, from its entry to the reply.
 
 ghost use Rattle.std.specs.Prelude.{◌≡◌, ◌+◌, ◌<◌, ◌≤◌, IfOk, length};
-ghost use Rattle.cckd_shelf.specs.Faults.{Fails, NoneFell};
+ghost use Rattle.cckd_shelf.specs.Seen.{seen, Tells, Stays, Fails};
+ghost use Rattle.cckd_shelf.specs.Faults.{NoneFell};
 ghost use Rattle.cckd_shelf.specs.declared.fault.Kind.TheVariants.{Reads};
 ghost use Rattle.cckd_shelf.specs.World.{IsSure, file_of};
 ghost use Rattle.cckd_base.specs.Geometry.{track_count, IsLayout, IsNullFormat};
@@ -80,16 +81,16 @@ fn reply_by<T: Stage>(
 ) -> Result<Reply, Failed>
     requires base { base ≡ 0 }
     requires layout { IsLayout l.now }
-    requires mounted { T.tells → IsSure (T.world stage.old) → IsMounted l.now (file_of (T.world stage.old) 0) }
+    requires mounted { Tells (seen T.Shows stage.old) → IsSure (seen T.Shows stage.old).world → IsMounted l.now (file_of (seen T.Shows stage.old).world 0) }
     requires track { t.0 < track_count l.now.geo }
-    requires entry { T.tells → IsSure (T.world stage.old) → entry ≡ entry_at l.now (file_of (T.world stage.old) 0) t.0 }
+    requires entry { Tells (seen T.Shows stage.old) → IsSure (seen T.Shows stage.old).world → entry ≡ entry_at l.now (file_of (seen T.Shows stage.old).world 0) t.0 }
     requires room { 65536 ≤ length out.old }
-    ensures reply { T.tells → IsSure (T.world stage.old) → IfOk result (λ given.
-        IsReplyTo l.now t.0 (visible l.now (file_of (T.world stage.old) 0) t.0) given (answered_bytes given out.new)) }
+    ensures reply { Tells (seen T.Shows stage.old) → IsSure (seen T.Shows stage.old).world → IfOk result (λ given.
+        IsReplyTo l.now t.0 (visible l.now (file_of (seen T.Shows stage.old).world 0) t.0) given (answered_bytes given out.new)) }
     ensures short { IfOk result IsTrackReply }
-    ensures kept { T.tells → T.world stage.new ≡ T.world stage.old }
-    ensures fails { Fails Reads result (T.faults stage.old) (T.faults stage.new) }
-    ensures called { T.calls stage.new ≤ T.calls stage.old + 1 }
+    ensures kept { Stays (seen T.Shows stage.old) (seen T.Shows stage.new) }
+    ensures fails { Fails Reads result (seen T.Shows stage.old) (seen T.Shows stage.new) }
+    ensures called { (seen T.Shows stage.new).calls ≤ (seen T.Shows stage.old).calls + 1 }
 {
     if entry.is_null() {
         return Ok(null_reply(l, t, format_of(l, entry), out));
@@ -109,15 +110,15 @@ fn read_track<T: Stage>(
 ) -> Result<Reply, Failed>
     requires base { base ≡ 0 }
     requires layout { IsLayout l.now }
-    requires mounted { T.tells → IsSure (T.world stage.old) → IsMounted l.now (file_of (T.world stage.old) 0) }
+    requires mounted { Tells (seen T.Shows stage.old) → IsSure (seen T.Shows stage.old).world → IsMounted l.now (file_of (seen T.Shows stage.old).world 0) }
     requires track { t.0 < track_count l.now.geo }
     requires room { 65536 ≤ length out.old }
-    ensures reply { T.tells → IsSure (T.world stage.old) → IfOk result (λ given.
-        IsReplyTo l.now t.0 (visible l.now (file_of (T.world stage.old) 0) t.0) given (answered_bytes given out.new)) }
+    ensures reply { Tells (seen T.Shows stage.old) → IsSure (seen T.Shows stage.old).world → IfOk result (λ given.
+        IsReplyTo l.now t.0 (visible l.now (file_of (seen T.Shows stage.old).world 0) t.0) given (answered_bytes given out.new)) }
     ensures short { IfOk result IsTrackReply }
-    ensures kept { T.tells → T.world stage.new ≡ T.world stage.old }
-    ensures fails { Fails Reads result (T.faults stage.old) (T.faults stage.new) }
-    ensures called { T.calls stage.new ≤ T.calls stage.old + 3 }
+    ensures kept { Stays (seen T.Shows stage.old) (seen T.Shows stage.new) }
+    ensures fails { Fails Reads result (seen T.Shows stage.old) (seen T.Shows stage.new) }
+    ensures called { (seen T.Shows stage.new).calls ≤ (seen T.Shows stage.old).calls + 3 }
 {
     let entry = entry_of(stage, base, l, t)?;
     reply_by(stage, base, l, t, entry, out)
@@ -127,15 +128,15 @@ fn read_track<T: Stage>(
 pub fn read_at<T: Stage>(stage: &mut T, base: Slot, l: &Layout, at: Addr, out: &mut [u8]) -> Reply
     requires base { base ≡ 0 }
     requires layout { IsLayout l.now }
-    requires mounted { T.tells → IsSure (T.world stage.old) → IsMounted l.now (file_of (T.world stage.old) 0) }
+    requires mounted { Tells (seen T.Shows stage.old) → IsSure (seen T.Shows stage.old).world → IsMounted l.now (file_of (seen T.Shows stage.old).world 0) }
     requires room { 65536 ≤ length out.old }
-    ensures answers { T.tells → IsSure (T.world stage.old)
-        → AnswersRead l.now (file_of (T.world stage.old) 0) at result (answered_bytes result out.new) }
+    ensures answers { Tells (seen T.Shows stage.old) → IsSure (seen T.Shows stage.old).world
+        → AnswersRead l.now (file_of (seen T.Shows stage.old).world 0) at result (answered_bytes result out.new) }
     ensures short { IsReadReply result }
-    ensures counted { RoseBy (reply_faults result) (T.faults stage.old).reads (T.faults stage.new).reads }
-    ensures kept { T.tells → T.world stage.new ≡ T.world stage.old }
-    ensures fell { NoneFell (T.faults stage.old) (T.faults stage.new) }
-    ensures called { T.calls stage.new ≤ T.calls stage.old + 3 }
+    ensures counted { RoseBy (reply_faults result) (seen T.Shows stage.old).faults.reads (seen T.Shows stage.new).faults.reads }
+    ensures kept { Stays (seen T.Shows stage.old) (seen T.Shows stage.new) }
+    ensures fell { NoneFell (seen T.Shows stage.old).faults (seen T.Shows stage.new).faults }
+    ensures called { (seen T.Shows stage.new).calls ≤ (seen T.Shows stage.old).calls + 3 }
 {
     let Some(t) = l.geo.track(at) else {
         return Reply::Refused(Refusal::NoSuchTrack);

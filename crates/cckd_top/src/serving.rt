@@ -1,15 +1,16 @@
 //! A script, from its first line to the reply that ends the run.
 
 ghost use Rattle.std.specs.Prelude.{◌≡◌, ◌+◌, ◌≤◌, max, length};
+ghost use Rattle.cckd_shelf.specs.Seen.{seen, Tells};
 ghost use Rattle.cckd_shelf.specs.World.{IsSure, file_of};
 ghost use Rattle.cckd_base.specs.Geometry.{IsLayout};
-ghost use Rattle.cckd_top.specs.Lines.{LiesIn, IsShort};
+ghost use Rattle.cckd_lines.specs.Lines.{LiesIn, IsShort};
 ghost use Rattle.cckd_top.specs.Opening.{IsMounted};
-ghost use Rattle.cckd_top.specs.Serving.{Serves, ServesScript, items_of_next, is_last};
+ghost use Rattle.cckd_top.specs.Serving.{ServesItems, ServesWhole, items_of_next, is_last};
 
 use crate::answering::{answer_line, close, refuse};
-use crate::lines::{Next, Place, next_line};
 use cckd_base::Layout;
+use cckd_lines::{Next, Place, next_line};
 use cckd_script::{LINE_LIMIT, LINE_ROOM, Misreading};
 use cckd_shelf::{Failed, Slot, Stage};
 
@@ -36,13 +37,12 @@ fn serve_next<T: Stage>(
 ) -> Result<u8, Failed>
     requires base { base ≡ 0 }
     requires layout { IsLayout l.now }
-    requires mounted { T.tells → IsSure (T.world stage.old) → IsMounted l.now (file_of (T.world stage.old) 0) }
+    requires mounted { Tells (seen T.Shows stage.old) → IsSure (seen T.Shows stage.old).world → IsMounted l.now (file_of (seen T.Shows stage.old).world 0) }
     requires lies { LiesIn room.now next }
     requires short { IsShort next }
     requires track { 65536 ≤ length track.old }
     requires output { LINE_ROOM ≤ length output.old }
-    ensures { Serves T.tells (T.tells × IsSure (T.world stage.old)) l.now (file_of (T.world stage.old) 0)
-        (T.world stage.old) (T.world stage.new) (T.faults stage.old) (T.faults stage.new) (items_of_next room.now next) result }
+    ensures { ServesItems l.now (seen T.Shows stage.old) (seen T.Shows stage.new) (items_of_next room.now next) result }
 {
     match next {
         Next::Line { start, end } => answer_line(stage, base, l, &room[start..end], track, output),
@@ -79,12 +79,11 @@ pub fn serve<T: Stage>(
 ) -> Stop
     requires base { base ≡ 0 }
     requires layout { IsLayout l.now }
-    requires mounted { T.tells → IsSure (T.world stage.old) → IsMounted l.now (file_of (T.world stage.old) 0) }
+    requires mounted { Tells (seen T.Shows stage.old) → IsSure (seen T.Shows stage.old).world → IsMounted l.now (file_of (seen T.Shows stage.old).world 0) }
     requires room { LINE_LIMIT + 2 ≤ length room.old }
     requires track { 65536 ≤ length track.old }
     requires output { LINE_ROOM ≤ length output.old }
-    ensures { ServesScript T.tells (T.tells × IsSure (T.world stage.old)) l.now (file_of (T.world stage.old) 0) limit
-        (T.world stage.old) (T.world stage.new) (T.faults stage.old) (T.faults stage.new) result }
+    ensures { ServesWhole l.now limit (seen T.Shows stage.old) (seen T.Shows stage.new) result }
 {
     let mut place = Place {
         start: 0,

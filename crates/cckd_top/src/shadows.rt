@@ -1,8 +1,8 @@
 //! Whether a file above the base is there.
 
 ghost use Rattle.std.specs.Prelude.{◌≡◌, ◌==◌, IfOk};
+ghost use Rattle.cckd_shelf.specs.Seen.{seen, Tells, Stays, Fails};
 ghost use Rattle.std.specs.List.{list_all};
-ghost use Rattle.cckd_shelf.specs.Faults.{Fails};
 ghost use Rattle.cckd_shelf.specs.declared.fault.Kind.TheVariants.{Reads};
 ghost use Rattle.cckd_shelf.specs.World.{IsSure, file_of};
 ghost use Rattle.cckd_base.specs.Header.{is_present};
@@ -22,10 +22,10 @@ fn are_zeros(bytes: &[u8]) -> bool
 
 /// Whether a slot is there: its file isn't empty, and doesn't begin with 512 zeros.
 fn is_there<T: Stage>(stage: &mut T, slot: Slot) -> Result<bool, Failed>
-    ensures there { T.tells → IsSure (T.world stage.old)
-        → IfOk result (λ there. there ≡ is_present (file_of (T.world stage.old) slot)) }
-    ensures kept { T.tells → T.world stage.new ≡ T.world stage.old }
-    ensures fails { Fails Reads result (T.faults stage.old) (T.faults stage.new) }
+    ensures there { Tells (seen T.Shows stage.old) → IsSure (seen T.Shows stage.old).world
+        → IfOk result (λ there. there ≡ is_present (file_of (seen T.Shows stage.old).world slot)) }
+    ensures kept { Stays (seen T.Shows stage.old) (seen T.Shows stage.new) }
+    ensures fails { Fails Reads result (seen T.Shows stage.old) (seen T.Shows stage.new) }
 {
     let len = stage.len(slot)?;
     if len < 512 {
@@ -38,10 +38,10 @@ fn is_there<T: Stage>(stage: &mut T, slot: Slot) -> Result<bool, Failed>
 
 /// Whether one of the slots above the base is there.
 pub fn any_shadow<T: Stage>(stage: &mut T) -> Result<bool, Failed>
-    ensures above { T.tells → IsSure (T.world stage.old)
-        → IfOk result (λ above. above ≡ holds_shadow (T.world stage.old) 8) }
-    ensures kept { T.tells → T.world stage.new ≡ T.world stage.old }
-    ensures fails { Fails Reads result (T.faults stage.old) (T.faults stage.new) }
+    ensures above { Tells (seen T.Shows stage.old) → IsSure (seen T.Shows stage.old).world
+        → IfOk result (λ above. above ≡ holds_shadow (seen T.Shows stage.old).world 8) }
+    ensures kept { Stays (seen T.Shows stage.old) (seen T.Shows stage.new) }
+    ensures fails { Fails Reads result (seen T.Shows stage.old) (seen T.Shows stage.new) }
 {
     let mut above = false;
     for number in 1..9u8 {

@@ -1,3 +1,4 @@
+use Rattle.std.specs.Prelude.{T}
 use Rattle.std.proofs.Common.{refl}
 use Rattle.cckd_script.specs.Text.{misread}
 use Rattle.cckd_top.proofs.ServingLemmas.{one_served, one_cut, line_is, none_fell_same, rose_by_none}
@@ -5,9 +6,9 @@ use Rattle.cckd_top.proofs.answering.refuse.Goals as goal
 
 pub returns : goal.returns
 returns g c =
-    let w = g.T.Shelf.world c.args.stage.now in
-    let f = g.T.Shelf.faults c.args.stage.now in
-    one_served g.T.Shelf.tells _ c.args.l.now _ w w (g.T.Shelf.world c.put_all.new.stage)
+    let w = g.T.Shows.world c.args.stage.now in
+    let f = g.T.Shows.faults c.args.stage.now in
+    one_served (T g.T.Shows.tells) _ c.args.l.now _ w w (g.T.Shows.world c.put_all.new.stage)
     _ f _ (misread c.args.why) c.put_all.result _
     (λ told. tt) (rose_by_none f.reads) (λ told. refl) (none_fell_same f)
     (line_is c.print_misreading-end.result _ c.args.output.now c.print_misreading-end.new.line c.print_misreading-end.ensures.printed)
@@ -16,9 +17,9 @@ returns g c =
 
 pub returns-in_default : goal.returns-in_default
 returns-in_default g c =
-    let w = g.T.Shelf.world c.args.stage.now in
-    let f = g.T.Shelf.faults c.args.stage.now in
-    one_cut g.T.Shelf.tells _ c.args.l.now _ w w (g.T.Shelf.world c.put_all.new.stage)
+    let w = g.T.Shows.world c.args.stage.now in
+    let f = g.T.Shows.faults c.args.stage.now in
+    one_cut (T g.T.Shows.tells) _ c.args.l.now _ w w (g.T.Shows.world c.put_all.new.stage)
     _ f _ (misread c.args.why) c.put_all.result _
     (λ told. tt) (rose_by_none f.reads) (λ told. refl) (none_fell_same f)
     (line_is c.print_misreading-end.result _ c.args.output.now c.print_misreading-end.new.line c.print_misreading-end.ensures.printed)

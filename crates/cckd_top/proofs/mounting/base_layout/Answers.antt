@@ -5,7 +5,7 @@ use Rattle.cckd_top.proofs.mounting.base_layout.Goals as goal
 
 pub returns-in-Ok-decode-clause-sound : goal.returns-in-Ok-decode-clause-sound
 returns-in-Ok-decode-clause-sound g c = λ told sure.
-    let file = file_of (g.T.Shelf.world c.args.stage.now) 0 in
+    let file = file_of (g.T.Shows.world c.args.stage.now) 0 in
     sound_headers file c.read_headers.new.headers c.in-Ok.len _ c.in-Ok-decode.header c.layout.result c.decode.result
     (c.in-Ok.ensures.headers told sure ∙ filled 1024 file)
     (c.in-Ok.ensures.length told sure) c.decode.ensures.answer c.in-Ok-decode.is c.in-Ok-decode.ensures.sound c.in-Ok-decode.ensures.layout
@@ -13,7 +13,7 @@ returns-in-Ok-decode-clause-sound g c = λ told sure.
 
 pub returns-in-Err-clause-cause : goal.returns-in-Err-clause-cause
 returns-in-Err-clause-cause g c = λ told.
-    let file = file_of (g.T.Shelf.world c.args.stage.now) 0 in
+    let file = file_of (g.T.Shows.world c.args.stage.now) 0 in
     bad_headers file c.read_headers.new.headers c.in-Ok.len c.in-Err.fault c.decode.result
     (c.in-Ok.ensures.headers told.0 told.1 ∙ filled 1024 file)
     (c.in-Ok.ensures.length told.0 told.1) c.decode.ensures.answer c.in-Err.is

@@ -6,8 +6,8 @@ use Rattle.cckd_top.proofs.mounting.read_headers.Goals as goal
 
 pub returns-clause-headers : goal.returns-clause-headers
 returns-clause-headers g c = λ told sure.
-    let w = g.T.Shelf.world c.args.stage.now in
-    let between = g.T.Shelf.world c.len.new.self in
+    let w = g.T.Shows.world c.args.stage.now in
+    let between = g.T.Shows.world c.len.new.self in
     let file = file_of w 0 in
     let kept = c.in_ok-len.ensures.kept told in
     let e : c.in_ok-len.len ≡ length file =

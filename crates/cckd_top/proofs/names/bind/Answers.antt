@@ -11,10 +11,10 @@ unreachable-requires g c =
 
 pub returns-then-number-eq0-clause-idle : goal.returns-then-number-eq0-clause-idle
 returns-then-number-eq0-clause-idle g c = λ told.
-    bind_makes (g.T.Shelf.world c.args.stage.now) (g.T.Shelf.world c.bind.new.self) c.args.slot c.args.file.now c.bind.result
+    bind_makes (g.T.Shows.world c.args.stage.now) (g.T.Shows.world c.bind.new.self) c.args.slot c.args.file.now c.bind.result
     (c.bind.ensures.bound told) (c.bind.ensures.kept told)
 
 pub returns-clause-idle : goal.returns-clause-idle
 returns-clause-idle g c = λ told.
-    bind_makes (g.T.Shelf.world c.args.stage.now) (g.T.Shelf.world c.bind-in-Ok.new.self) c.args.slot c.in-Ok.name.now c.bind-in-Ok.result
+    bind_makes (g.T.Shows.world c.args.stage.now) (g.T.Shows.world c.bind-in-Ok.new.self) c.args.slot c.in-Ok.name.now c.bind-in-Ok.result
     (c.bind-in-Ok.ensures.bound told) (c.bind-in-Ok.ensures.kept told)

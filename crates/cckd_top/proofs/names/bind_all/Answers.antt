@@ -9,11 +9,11 @@ loop-number-init g c = bound_none _ _ _ _
 
 pub loop-number-preserved : goal.loop-number-preserved
 loop-number-preserved g c =
-    bound_more _ _ (g.T.Shelf.world c.loop-number.stage) _ _ (g.T.Shelf.faults c.loop-number.stage) _ _ c.loop-number.number c.unwrap-slot.result
+    bound_more _ _ (g.T.Shows.world c.loop-number.stage) _ _ (g.T.Shows.faults c.loop-number.stage) _ _ c.loop-number.number c.unwrap-slot.result
     c.loop-number.invariant (slot_is c.new.result c.unwrap-slot.result _ c.new.ensures c.unwrap-slot.ensures)
     c.in_ok-bind.ensures.bound c.in_ok-bind.ensures.idle (fails_quietly _ _ _ _ c.in_ok-bind.ensures.fails)
 
 pub returns-in_err-bind-clause-idle : goal.returns-in_err-bind-clause-idle
 returns-in_err-bind-clause-idle g c = λ told.
-    only_makes_twice [] [] (g.T.Shelf.world c.args.stage.now) (g.T.Shelf.world c.loop-number.stage) (g.T.Shelf.world c.bind.new.stage)
+    only_makes_twice [] [] (g.T.Shows.world c.args.stage.now) (g.T.Shows.world c.loop-number.stage) (g.T.Shows.world c.bind.new.stage)
     (c.loop-number.invariant.idle told) (c.bind.ensures.idle told)

@@ -13,7 +13,7 @@ pub returns-then-is_null-clause-reply : goal.returns-then-is_null-clause-reply
 returns-then-is_null-clause-reply g c = λ told sure.
     let l = c.args.l.now in
     let t = c.args.t.0 in
-    let file = file_of (g.T.Shelf.world c.args.stage.now) 0 in
+    let file = file_of (g.T.Shows.world c.args.stage.now) 0 in
     let e = c.args.entry in
     let is = c.requires.entry told sure in
     let fit = subst (FitsFile file) (sym is) (fits l file t (c.requires.mounted told sure) c.requires.track) in
@@ -27,13 +27,13 @@ read-requires g c = λ told sure.
     let l = c.args.l.now in
     let t = c.args.t.0 in
     let e = c.args.entry in
-    let file = file_of (g.T.Shelf.world c.args.stage.now) 0 in
+    let file = file_of (g.T.Shows.world c.args.stage.now) 0 in
     let is = c.requires.entry told sure in
     let fit = subst (FitsFile file) (sym is) (fits l file t (c.requires.mounted told sure) c.requires.track) in
     let some : e.pos ≢ 0 = λ null. false≢true (c.if-is_null.ensures.1 null) in
     let within = fit.stored some in
     let long = length-take-le c.from.result c.args.out.now (omega arith) in
-    subst (λ (s : ℕ). c.from-2.result + length (take c.from.result c.args.out.now) ≤ length (file_of (g.T.Shelf.world c.args.stage.now) s))
+    subst (λ (s : ℕ). c.from-2.result + length (take c.from.result c.args.out.now) ≤ length (file_of (g.T.Shows.world c.args.stage.now) s))
     (sym c.requires.base) (omega (arith, within, long, c.from.ensures, c.from-2.ensures))
 
 pub returns-clause-reply : goal.returns-clause-reply
@@ -41,7 +41,7 @@ returns-clause-reply g c = λ told sure.
     let l = c.args.l.now in
     let t = c.args.t.0 in
     let e = c.args.entry in
-    let w = g.T.Shelf.world c.args.stage.now in
+    let w = g.T.Shows.world c.args.stage.now in
     let file = file_of w 0 in
     let is = c.requires.entry told sure in
     let fit = subst (FitsFile file) (sym is) (fits l file t (c.requires.mounted told sure) c.requires.track) in

@@ -1,3 +1,4 @@
+use Rattle.std.specs.Prelude.{T}
 use Rattle.std.proofs.Common.{arith}
 use Rattle.cckd_top.proofs.Binding.{slot_is}
 use Rattle.cckd_top.proofs.FaultLemmas.{fails_quietly}
@@ -9,12 +10,12 @@ loop-number-init g c = looks_none _ _ _
 
 pub loop-number-preserved : goal.loop-number-preserved
 loop-number-preserved g c =
-    looks_more _ _ (g.T.Shelf.world c.loop-number.stage) _ _ (g.T.Shelf.faults c.loop-number.stage) _ c.loop-number.number c.unwrap-slot.result
+    looks_more _ _ (g.T.Shows.world c.loop-number.stage) _ _ (g.T.Shows.faults c.loop-number.stage) _ c.loop-number.number c.unwrap-slot.result
     c.loop-number.above _ (omega arith)
     c.loop-number.invariant (slot_is c.new.result c.unwrap-slot.result _ c.new.ensures c.unwrap-slot.ensures)
     c.in_ok-there.ensures.there c.in_ok-there.ensures.kept (fails_quietly _ _ _ _ c.in_ok-there.ensures.fails)
 
 pub returns-clause-above : goal.returns-clause-above
 returns-clause-above g c =
-    looks_all g.T.Shelf.tells _ (g.T.Shelf.world c.loop-number.stage) _ (g.T.Shelf.faults c.loop-number.stage)
+    looks_all (T g.T.Shows.tells) _ (g.T.Shows.world c.loop-number.stage) _ (g.T.Shows.faults c.loop-number.stage)
     c.loop-number.number c.loop-number.above (omega arith) c.loop-number.invariant

@@ -5,7 +5,7 @@ use Rattle.cckd_top.proofs.shadows.is_there.Goals as goal
 
 pub returns-clause-there : goal.returns-clause-there
 returns-clause-there g c = λ told sure.
-    let w = g.T.Shelf.world c.args.stage.now in
+    let w = g.T.Shows.world c.args.stage.now in
     let kept = c.in_ok-len.ensures.kept told in
     there_by_front (file_of w c.args.slot) c.read.new.into c.are_zeros.result c.in_ok-len.len (c.in_ok-len.ensures.len told sure)
     c.if-len-lt512.false
