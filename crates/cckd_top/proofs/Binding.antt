@@ -1,13 +1,10 @@
 -- What the loop that gives the slots their files keeps.
-use Rattle.std.proofs.Common.{◌≡◌, ℕ, ◌+◌, ◌≤◌, Option, Some, List, [], subst, arith}
+use Rattle.std.proofs.Common.{◌≡◌, ℕ, ◌+◌, ◌≤◌, Option, Some, List, [], refl, ◌∙◌, subst, arith}
 use Rattle.std.specs.Option.{SomeIff}
 use Rattle.cckd_shelf.specs.declared.fault.Faults.{Faults}
-use Rattle.cckd_shelf.specs.Faults.{Fails}
-use Rattle.cckd_shelf.specs.declared.fault.Kind.TheVariants.{Reads}
 use Rattle.cckd_shelf.specs.World.{World, after_bind}
 use Rattle.cckd_top.specs.Names.{slot_name}
 use Rattle.cckd_top.specs.World.{OnlyMakes, AreNamed}
-use Rattle.cckd_top.proofs.FaultLemmas.{went_well, fails_then, fails_nothing}
 use Rattle.cckd_top.proofs.WorldLemmas.{only_makes_twice, only_makes_nothing}
 use Rattle.cckd_top.proofs.NameLemmas.{named_more}
 
@@ -15,13 +12,13 @@ use Rattle.cckd_top.proofs.NameLemmas.{named_more}
 pub record IsBound (tells : Type 0) (old now : World) (before after : Faults) (file : List ℕ) (slots : ℕ) : Type 0 where
   pub named : tells → AreNamed now file slots
   pub idle : tells → OnlyMakes [] old now
-  pub fails : Fails Reads went_well before after
+  pub quiet : after ≡ before
 
 pub bound_none : (tells : Type 0) (w : World) (f : Faults) (file : List ℕ) → IsBound tells w w f f file 0
 bound_none tells w f file = record {
   named = λ told slot less. absurd (omega (arith, less));
   idle = λ told. only_makes_nothing w;
-  fails = fails_nothing Reads f;
+  quiet = refl;
 }
 
 -- the slot of a number is the number
@@ -31,12 +28,12 @@ slot_is found slot number made e = let here = subst (λ (o : Option ℕ). SomeIf
 -- a slot more
 pub bound_more : (tells : Type 0) (old now then : World) (before after later : Faults) (file : List ℕ) (n slot : ℕ)
     → IsBound tells old now before after file n → slot ≡ n
-    → (tells → then ≡ after_bind now slot (slot_name file slot))
-    → (tells → OnlyMakes [] now then) → Fails Reads went_well after later
+    → (tells → then ≡ after_bind slot (slot_name file slot) now)
+    → (tells → OnlyMakes [] now then) → later ≡ after
     → IsBound tells old then before later file (n + 1)
 bound_more tells old now then before after later file n slot so_far at bound idle fine = record {
   named = λ told. named_more now then file n (so_far.named told)
-      (subst (λ (s : ℕ). then ≡ after_bind now s (slot_name file s)) at (bound told));
+      (subst (λ (s : ℕ). then ≡ after_bind s (slot_name file s) now) at (bound told));
   idle = λ told. only_makes_twice [] [] old now then (so_far.idle told) (idle told);
-  fails = fails_then Reads went_well went_well before after later so_far.fails fine;
+  quiet = fine ∙ so_far.quiet;
 }

@@ -19,10 +19,9 @@ use Rattle.cckd_top.specs.Words.{words_fault, file_word}
 use Rattle.cckd_top.specs.World.{KeepsFiles, MakesSome, MakesThenPuts, PutsFront, IsPrinted, whole, cut_short}
 use Rattle.cckd_top.specs.Run.{halted, closed, unscripted, cut, script_limit, opening_in, HasHaltCause, OverTheFile, HasFileCause, words_are_bad, file_is_named, HaltMakes, IsBaseSync}
 use Rattle.cckd_top.specs.Explained.{IsExplainedBy, IsFileExplained, Finishes}
-use Rattle.cckd_top.proofs.FaultLemmas.{none_fell_twice}
+use Rattle.cckd_top.proofs.FaultLemmas.{none_fell_same, none_fell_twice}
 use Rattle.cckd_top.proofs.WorldLemmas.{keeps_files_twice, makes_then_puts, only_makes_nothing}
 use Rattle.cckd_top.proofs.MountLemmas.{idle_makes}
-use Rattle.cckd_top.proofs.ServingLemmas.{none_fell_same}
 
 -- what looked before put nothing
 printed_later : (tells rose risen : Type 0) (old between new : World) (text : List ℕ) (code status : ℕ) → (rose → risen)

@@ -1,10 +1,14 @@
--- Calls of one kind in a row.
-use Rattle.std.proofs.Common.{◌≡◌, ℕ, ◌≤◌, Result, Ok, Err, OnErr, refl, ◌∙◌, ap, arith}
+-- Counts of faults over calls in a row.
+use Rattle.std.proofs.Common.{◌≡◌, ℕ, ◌≤◌, Result, Ok, Err, refl, sym, ◌∙◌, ap, subst, arith}
 use Rattle.cckd_shelf.specs.declared.fault.Failed.{Failed}
 use Rattle.cckd_shelf.specs.declared.fault.Faults.{Faults}
-use Rattle.cckd_shelf.specs.Faults.{count, NoneFell, Rose, Fails, with_count}
 use Rattle.cckd_shelf.specs.declared.fault.Kind.{Kind}
 use Rattle.cckd_shelf.specs.declared.fault.Kind.TheVariants.{Reads, Writes, Syncs, Takes, Puts}
+use Rattle.cckd_shelf.specs.Faults.{count, with_count, NoneFell, Rose, Raises}
+use Rattle.cckd_shelf.specs.Seen.{Seen, Fails}
+
+pub none_fell_same : (f : Faults) → NoneFell f f
+none_fell_same f = record { reads = omega arith; writes = omega arith; syncs = omega arith; takes = omega arith; puts = omega arith }
 
 pub none_fell_twice : (a b c : Faults) → NoneFell a b → NoneFell b c → NoneFell a c
 none_fell_twice a b c f g = record {
@@ -15,55 +19,27 @@ none_fell_twice a b c f g = record {
   puts = omega (arith, f.puts, g.puts);
 }
 
-pub count_none_fell : (kind : Kind) (a b : Faults) → NoneFell a b → count kind a ≤ count kind b
-count_none_fell Reads a b f = f.reads
-count_none_fell Writes a b f = f.writes
-count_none_fell Syncs a b f = f.syncs
-count_none_fell Takes a b f = f.takes
-count_none_fell Puts a b f = f.puts
+-- counts that stay don't fall
+pub still_fell : (a b : Faults) → b ≡ a → NoneFell a b
+still_fell a b same = subst (NoneFell a) (sym same) (none_fell_same a)
 
-with_count_twice : (kind : Kind) (m n : ℕ) (f : Faults) → with_count kind m (with_count kind n f) ≡ with_count kind m f
-with_count_twice Reads m n f = refl
-with_count_twice Writes m n f = refl
-with_count_twice Syncs m n f = refl
-with_count_twice Takes m n f = refl
-with_count_twice Puts m n f = refl
+-- a call lets no count fall
+pub call_fell : {A : Type 0} (kind : Kind) (r : Result A Failed) (a b : Seen) → Fails kind r a b → NoneFell a.faults b.faults
+call_fell kind (Ok x) a b f = still_fell a.faults b.faults f.still
+call_fell kind (Err e) a b f = f.rose.fell
 
-same_count : (kind : Kind) (f : Faults) → f ≡ with_count kind (count kind f) f
-same_count Reads f = refl
-same_count Writes f = refl
-same_count Syncs f = refl
-same_count Takes f = refl
-same_count Puts f = refl
+-- a call behind others that left the counts
+pub fails_later : {A : Type 0} (kind : Kind) (r : Result A Failed) (a b c : Seen) → b.faults ≡ a.faults → Fails kind r b c → Fails kind r a c
+fails_later kind (Ok x) a b c same f = record { still = f.still ∙ same; rose = tt }
+fails_later kind (Err e) a b c same f = record { still = tt; rose = subst (λ (faults : Faults). Raises kind faults c.faults) same f.rose }
 
-rose_from_lower : {T : Type 0} (r : Result T Failed) (a b c : ℕ) → a ≤ b → OnErr r (Rose b c) → OnErr r (Rose a c)
-rose_from_lower (Ok x) a b c le h = tt
-rose_from_lower (Err e) a b c le h = omega arith
+count_of : (kind : Kind) (n : ℕ) (f : Faults) → count kind (with_count kind n f) ≡ n
+count_of Reads n f = refl
+count_of Writes n f = refl
+count_of Syncs n f = refl
+count_of Takes n f = refl
+count_of Puts n f = refl
 
--- calls of one kind that all went well
-abbrev pub went_well : Result (Unit {0}) Failed
-went_well = Ok tt
-
--- a call, and another one of its kind
-pub fails_then : {S T : Type 0} (kind : Kind) (q : Result S Failed) (r : Result T Failed) (a b c : Faults)
-    → Fails kind q a b → Fails kind r b c → Fails kind r a c
-fails_then kind q r a b c f g = record {
-  fell = none_fell_twice a b c f.fell g.fell;
-  others =
-      g.others ∙ ap (with_count kind (count kind c)) f.others ∙ with_count_twice kind (count kind c) (count kind b) a;
-  rose = rose_from_lower r (count kind a) (count kind b) (count kind c) (count_none_fell kind a b f.fell) g.rose;
-  last = λ small. g.last (f.last small);
-}
-
--- what a call did to the counts, but for what its answer says
-pub fails_quietly : {S : Type 0} (kind : Kind) (q : Result S Failed) (a b : Faults) → Fails kind q a b → Fails kind went_well a b
-fails_quietly kind q a b f = record { fell = f.fell; others = f.others; rose = tt; last = f.last }
-
--- nothing was called
-pub fails_nothing : (kind : Kind) (a : Faults) → Fails kind went_well a a
-fails_nothing kind a = record {
-  fell = record { reads = omega arith; writes = omega arith; syncs = omega arith; takes = omega arith; puts = omega arith };
-  others = same_count kind a;
-  rose = tt;
-  last = λ small. small;
-}
+-- the count of a call that failed rose
+pub raises_rose : (kind : Kind) (a b : Faults) → Raises kind a b → Rose (count kind a) (count kind b)
+raises_rose kind a b up = let is = ap (count kind) up.counts ∙ count_of kind _ a in omega (arith, is)

@@ -16,9 +16,10 @@ use Rattle.cckd_top.specs.Opening.{bad_header, has_misfit, not_yet, ready, openi
 use Rattle.cckd_top.specs.Run.{HasHaltCause, HaltMakes, IsBaseSync, opening_in}
 use Rattle.cckd_top.specs.World.{OnlyMakes, MakesSome, AreNamed, has_shadow, holds_shadow}
 use Rattle.cckd_top.proofs.WorldLemmas.{only_makes_twice, intact_at_sync}
+use Rattle.cckd_shelf.proofs.WorldLemmas.{tied_slot}
 use Rattle.cckd_top.proofs.ShadowLemmas.{shadows_are_held}
 
-sync_makes : (w : World) (slot : ℕ) → OnlyMakes (Synced slot ∷ []) w (after_sync w slot)
+sync_makes : (w : World) (slot : ℕ) → OnlyMakes (Synced slot ∷ []) w (after_sync slot w)
 sync_makes w slot = record { files = refl; made = refl; silent = append-nil (output_of w.events); sure = refl; script = refl; intact = intact_at_sync w slot }
 
 -- The files have the names of a disk, and nothing else was done but to sync the base: slot 0 holds what the name held, and the slots above its shadows.
@@ -28,9 +29,9 @@ pub record IsNamedDisk (tells : Type 0) (old now : World) (name : List ℕ) : Ty
 
 -- after the base was synced
 pub after_the_sync : (tells : Type 0) (old bound synced : World) (name : List ℕ) (slot : ℕ) → slot ≡ 0 → (tells → OnlyMakes [] old bound)
-    → (tells → AreNamed bound name 9) → (tells → synced ≡ after_sync bound slot) → IsNamedDisk tells old synced name
+    → (tells → AreNamed bound name 9) → (tells → synced ≡ after_sync slot bound) → IsNamedDisk tells old synced name
 after_the_sync tells old bound synced name slot base idle named sync =
-    let is : tells → synced ≡ after_sync bound 0 = λ told. sync told ∙ ap (after_sync bound) base in
+    let is : tells → synced ≡ after_sync 0 bound = λ told. sync told ∙ ap (λ (s : ℕ). after_sync s bound) base in
     record {
       makes = λ told. only_makes_twice [] (Synced 0 ∷ []) old bound synced (idle told)
           (subst (OnlyMakes (Synced 0 ∷ []) bound) (sym (is told)) (sync_makes bound 0));
@@ -73,7 +74,7 @@ module _ (tells : Type 0) (old now : World) (name : List ℕ) (disk : IsNamedDis
   -- the base is the file of the name
   pub base_is : tells → file_of now 0 ≡ held_by old name
   base_is told =
-      sym ((tied told).named 0 name (disk.named told 0 (omega arith)))
+      sym (tied_slot now 0 name (tied told) (disk.named told 0 (omega arith)))
       ∙ ap (λ (files : List ℕ → Option (List ℕ)). unwrap_or (files name) []) (disk.makes told).files
 
   pub shadow_is : tells → holds_shadow now 8 ≡ has_shadow old name 8

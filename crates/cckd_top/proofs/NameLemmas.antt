@@ -59,7 +59,7 @@ has_other a b ne = false_from_ne_true (bytes_eq a b) (λ e. ne ((bytes_eq-Decide
 
 -- a slot more has its name
 named_bound : (w : World) (file : List ℕ) (n : ℕ) → AreNamed w file n
-    → AreNamed (after_bind w n (slot_name file n)) file (n + 1)
+    → AreNamed (after_bind n (slot_name file n) w) file (n + 1)
 named_bound w file n named =
     let name = slot_name file n in
     let next : World = record w { events = Bound n name (held_by w name) ∷ w.events } in
@@ -85,12 +85,12 @@ named_bound w file n named =
     ∙ ap (λ (s : ℕ). Some (slot_name file s)) at)
     (cases_lt slot n))
 
-pub named_more : (w next : World) (file : List ℕ) (n : ℕ) → AreNamed w file n → next ≡ after_bind w n (slot_name file n)
+pub named_more : (w next : World) (file : List ℕ) (n : ℕ) → AreNamed w file n → next ≡ after_bind n (slot_name file n) w
     → AreNamed next file (n + 1)
 named_more w next file n named e = subst (λ (v : World). AreNamed v file (n + 1)) (sym e) (named_bound w file n named)
 
 -- a slot that got a name has it
-pub bound_name : (w next : World) (n : ℕ) (name : List ℕ) → next ≡ after_bind w n name → name_of next.events n ≡ Some name
+pub bound_name : (w next : World) (n : ℕ) (name : List ℕ) → next ≡ after_bind n name w → name_of next.events n ≡ Some name
 bound_name w next n name e =
     subst (λ (v : World). name_of v.events n ≡ Some name) (sym e) (
     cond_both (is_name (name_of w.events n) name) w (record w { events = Bound n name (held_by w name) ∷ w.events })

@@ -2,13 +2,10 @@
 use Rattle.std.proofs.Common.{◌≡◌, ℕ, ◌+◌, ◌-◌, ◌≤◌, List, [], ◌∷◌, ◌++◌, length, take, drop, refl, sym, ◌∙◌, ap, subst, arith, append_assoc, length-drop}
 use Rattle.std.proofs.Math.Seq.{take-add, take-length}
 use Rattle.cckd_shelf.specs.declared.fault.Faults.{Faults}
-use Rattle.cckd_shelf.specs.declared.fault.Kind.TheVariants.{Puts}
-use Rattle.cckd_shelf.specs.Faults.{Fails}
 use Rattle.cckd_shelf.specs.Events.{output_of}
 use Rattle.cckd_shelf.specs.World.{World, file_of, after_put}
 use Rattle.cckd_shelf.specs.Events.{Put}
 use Rattle.cckd_top.specs.World.{KeepsFiles}
-use Rattle.cckd_top.proofs.FaultLemmas.{went_well, fails_then}
 use Rattle.cckd_top.proofs.WorldLemmas.{keeps_files_twice, intact_at_put}
 
 -- the first n bytes of a text were put
@@ -18,17 +15,17 @@ pub record IsPutSoFar (tells : Type 0) (old now : World) (before after : Faults)
   pub files : tells → KeepsFiles old now
   pub file : tells → file_of now 0 ≡ file_of old 0
   pub script : tells → now.script ≡ old.script
-  pub fails : Fails Puts went_well before after
+  pub quiet : after ≡ before
 
-keeps_at_put : (w : World) (bytes : List ℕ) → KeepsFiles w (after_put w bytes)
+keeps_at_put : (w : World) (bytes : List ℕ) → KeepsFiles w (after_put bytes w)
 keeps_at_put w bytes = record { files = refl; puts = Put bytes ∷ []; only = (tt, tt); made = refl; sure = refl; intact = intact_at_put w bytes }
 
 -- one more piece of it
 pub put_more : (tells : Type 0) (old now next : World) (before after later : Faults) (text : List ℕ) (n m : ℕ)
     → IsPutSoFar tells old now before after text n
     → m ≤ length text - n
-    → (tells → next ≡ after_put now (take m (take (length text - n) (drop n text))))
-    → Fails Puts went_well after later
+    → (tells → next ≡ after_put (take m (take (length text - n) (drop n text))) now)
+    → later ≡ after
     → IsPutSoFar tells old next before later text (n + m)
 put_more tells old now next before after later text n m so_far fits stepped fine =
     let rest : take (length text - n) (drop n text) ≡ drop n text =
@@ -46,5 +43,5 @@ put_more tells old now next before after later text n m so_far fits stepped fine
           (subst (KeepsFiles now) (sym (stepped told)) (keeps_at_put now bytes));
       file = λ told. ap (λ (w : World). file_of w 0) (stepped told) ∙ so_far.file told;
       script = λ told. ap (λ (w : World). w.script) (stepped told) ∙ so_far.script told;
-      fails = fails_then Puts went_well went_well before after later so_far.fails fine;
+      quiet = fine ∙ so_far.quiet;
     }

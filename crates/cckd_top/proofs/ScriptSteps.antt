@@ -23,12 +23,12 @@ use Rattle.cckd_lines.specs.declared.lines.Place.{Place}
 use Rattle.cckd_lines.specs.declared.lines.Next.{Next}
 use Rattle.cckd_lines.specs.declared.lines.Next.TheVariants as next
 use Rattle.cckd_top.specs.declared.serving.Stop.TheVariants as stop
-use Rattle.cckd_lines.specs.Lines.{IsPlace, IsAtEnd, IsNext, BreaksOff, allowance, pending}
+use Rattle.cckd_lines.specs.Lines.{OnlyTakes, IsPlace, IsAtEnd, IsNext, BreaksOff, allowance, pending}
 use Rattle.cckd_top.specs.Opening.{IsMounted}
 use Rattle.cckd_top.specs.Serving.{IsLegal, HasServed, Serves, RoseBy, read_faults, worst, items_of_next, is_last, OfAFront, ServesScript}
-use Rattle.cckd_top.specs.World.{KeepsFiles, OnlyTakes, PutsFront}
-use Rattle.cckd_top.proofs.FaultLemmas.{none_fell_twice}
-use Rattle.cckd_top.proofs.ServingLemmas.{rose_twice, rose_by_none, none_fell_same}
+use Rattle.cckd_top.specs.World.{KeepsFiles, PutsFront}
+use Rattle.cckd_top.proofs.FaultLemmas.{none_fell_same, none_fell_twice}
+use Rattle.cckd_top.proofs.ServingLemmas.{rose_twice, rose_by_none}
 use Rattle.cckd_top.proofs.WorldLemmas.{all_twice, keeps_files_twice, keeps_files_same, takes_keeps, takes_file}
 use Rattle.cckd_lines.proofs.FillLemmas.{none_pending}
 use Rattle.cckd_top.proofs.ScriptLemmas.{IsReadUpTo, reads_none, reads_on, reads_all, reads_limit, reads_taken, reads_front}

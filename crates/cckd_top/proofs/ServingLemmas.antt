@@ -4,8 +4,7 @@ use Rattle.std.proofs.lemmas.Bool.{cond-false, le-ltb}
 use Rattle.cckd_base.specs.declared.geometry.Layout.{Layout}
 use Rattle.cckd_shelf.specs.declared.fault.Failed.{Failed}
 use Rattle.cckd_shelf.specs.declared.fault.Faults.{Faults}
-use Rattle.cckd_shelf.specs.declared.fault.Kind.TheVariants.{Puts}
-use Rattle.cckd_shelf.specs.Faults.{Rose, NoneFell, Fails}
+use Rattle.cckd_shelf.specs.Faults.{Rose, NoneFell}
 use Rattle.cckd_shelf.specs.Events.{output_of}
 use Rattle.cckd_shelf.specs.World.{World, file_of}
 use Rattle.cckd_script.specs.declared.misread.Item.{Item}
@@ -18,7 +17,7 @@ use Rattle.cckd_script.specs.Lines.{line_limit}
 use Rattle.cckd_script.specs.Text.{Entry, item_of, entry_text, script_text}
 use Rattle.cckd_top.specs.World.{KeepsFiles, PutsFront}
 use Rattle.cckd_top.specs.Serving.{IsLegal, HasServed, Serves, RoseBy, entry_faults, entry_status}
-use Rattle.cckd_top.proofs.FaultLemmas.{none_fell_twice}
+use Rattle.cckd_top.proofs.FaultLemmas.{none_fell_same, none_fell_twice}
 use Rattle.cckd_top.proofs.WorldLemmas.{keeps_files_same}
 
 -- what was put at the front of a line is the line
@@ -30,16 +29,16 @@ pub rose_twice : (m n a b c : ℕ) → RoseBy m a b → RoseBy n b c → RoseBy 
 rose_twice m n a b c f g = omega (arith, f, g)
 
 module _ (tells told : Type 0) (l : Layout) (file : List ℕ) (old between new : World) (before asked after : Faults) (entry : Entry)
-    (put : Result (Unit {0}) Failed) (text : List ℕ)
+    (text : List ℕ)
     (legal : told → IsLegal l file entry) (counted : RoseBy (entry_faults entry) before.reads asked.reads)
     (kept : tells → between ≡ old) (fell : NoneFell before asked)
     (is : text ≡ entry_text entry)
-    (files : tells → KeepsFiles between new) (unchanged : tells → file_of new 0 ≡ file_of between 0) (script : tells → new.script ≡ between.script) (fails : Fails Puts put asked after)
+    (files : tells → KeepsFiles between new) (unchanged : tells → file_of new 0 ≡ file_of between 0) (script : tells → new.script ≡ between.script) (behind : NoneFell asked after)
   where
     one_legal : HasServed told l file before after (entry ∷ [])
     one_legal = record {
       legal = λ t. (legal t, tt);
-      counted = omega (arith, counted, ap (λ (f : Faults). f.reads) fails.others, fails.fell.reads);
+      counted = omega (arith, counted, behind.reads);
     }
 
     said_text : text ≡ script_text (entry ∷ [])
@@ -61,7 +60,7 @@ module _ (tells told : Type 0) (l : Layout) (file : List ℕ) (old between new :
       script = λ t. script t ∙ ap (λ (w : World). w.script) (kept t);
       files = λ t. subst (λ (w : World). KeepsFiles w new) (kept t) (files t);
       slot = λ t. unchanged t ∙ ap (λ (w : World). file_of w 0) (kept t);
-      fell = none_fell_twice before asked after fell fails.fell;
+      fell = none_fell_twice before asked after fell behind;
     }
 
     -- one item was served, and the output failed in its line
@@ -79,11 +78,8 @@ module _ (tells told : Type 0) (l : Layout) (file : List ℕ) (old between new :
       script = λ t. script t ∙ ap (λ (w : World). w.script) (kept t);
       files = λ t. subst (λ (w : World). KeepsFiles w new) (kept t) (files t);
       slot = λ t. unchanged t ∙ ap (λ (w : World). file_of w 0) (kept t);
-      fell = none_fell_twice before asked after fell fails.fell;
+      fell = none_fell_twice before asked after fell behind;
     }
-
-pub none_fell_same : (f : Faults) → NoneFell f f
-none_fell_same f = record { reads = omega arith; writes = omega arith; syncs = omega arith; takes = omega arith; puts = omega arith }
 
 pub rose_by_none : (a : ℕ) → RoseBy 0 a a
 rose_by_none a = omega arith

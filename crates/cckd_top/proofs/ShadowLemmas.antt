@@ -4,23 +4,21 @@ use Rattle.std.specs.List.{list_all}
 use Rattle.std.proofs.lemmas.Bool.{ne_eqb, le-leb}
 use Rattle.std.proofs.lemmas.Bool.Decides.{nat_tests}
 use Rattle.cckd_shelf.specs.declared.fault.Faults.{Faults}
-use Rattle.cckd_shelf.specs.Faults.{Fails}
-use Rattle.cckd_shelf.specs.declared.fault.Kind.TheVariants.{Reads}
+use Rattle.cckd_shelf.proofs.WorldLemmas.{tied_slot}
 use Rattle.cckd_shelf.specs.World.{World, IsSure, IsTied, file_of, held_by}
 use Rattle.cckd_base.specs.Header.{is_present}
 use Rattle.cckd_top.specs.Names.{slot_name}
 use Rattle.cckd_top.specs.World.{AreNamed, has_shadow, holds_shadow}
-use Rattle.cckd_top.proofs.FaultLemmas.{went_well, fails_then, fails_nothing}
 
 -- the slots below this one are looked at
 pub record IsLooking (tells : Type 0) (w now : World) (before after : Faults) (slots : ℕ) (above : Bool) : Type 0 where
   pub found : tells → IsSure w → above ≡ holds_shadow w (slots - 1)
   pub kept : tells → now ≡ w
-  pub fails : Fails Reads went_well before after
+  pub quiet : after ≡ before
 
 pub looks_none : (tells : Type 0) (w : World) (f : Faults) → IsLooking tells w w f f 1 false
 unfolding holds_shadow
-looks_none tells w f = record { found = λ _ _. refl; kept = λ _. refl; fails = fails_nothing Reads f }
+looks_none tells w f = record { found = λ _ _. refl; kept = λ _. refl; quiet = refl }
 
 shadow_more : (w : World) (n : ℕ) (above there : Bool) → 1 ≤ n → above ≡ holds_shadow w (n - 1) → there ≡ is_present (file_of w n)
     → (above || there) ≡ holds_shadow w n
@@ -34,7 +32,7 @@ shadow_more w n above there least e f =
 
 pub looks_more : (tells : Type 0) (w now then : World) (before after later : Faults) (n slot : ℕ) (above there : Bool) → 1 ≤ n
     → IsLooking tells w now before after n above → slot ≡ n
-    → (tells → IsSure now → there ≡ is_present (file_of now slot)) → (tells → then ≡ now) → Fails Reads went_well after later
+    → (tells → IsSure now → there ≡ is_present (file_of now slot)) → (tells → then ≡ now) → later ≡ after
     → IsLooking tells w then before later (n + 1) (above || there)
 looks_more tells w now then before after later n slot above there least so_far at found kept fine = record {
   found = λ told sure.
@@ -45,7 +43,7 @@ looks_more tells w now then before after later n slot above there least so_far a
       let k_is : n ≡ n + 1 - 1 = omega arith in
       subst (λ (k : ℕ). (above || there) ≡ holds_shadow w k) k_is (shadow_more w n above there least (so_far.found told sure) here);
   kept = λ told. kept told ∙ so_far.kept told;
-  fails = fails_then Reads went_well went_well before after later so_far.fails fine;
+  quiet = fine ∙ so_far.quiet;
 }
 
 pub looks_all : (tells : Type 0) (w now : World) (before after : Faults) (n : ℕ) (above : Bool)
@@ -61,7 +59,7 @@ shadows_are_held w v name zero less named tied files = refl
 shadows_are_held w v name (suc n) less named tied files =
     let rest = shadows_are_held w v name n (omega arith) named tied files in
     let here : file_of w (suc n) ≡ held_by v (slot_name name (suc n)) =
-    sym (tied.named (suc n) (slot_name name (suc n)) (named (suc n) less))
+    sym (tied_slot w (suc n) (slot_name name (suc n)) tied (named (suc n) less))
     ∙ ap (λ (fs : List ℕ → Option (List ℕ)). unwrap_or (fs (slot_name name (suc n))) []) (sym files) in
     ap (λ b. b || is_present (file_of w (suc n))) rest ∙ ap (λ (f : List ℕ). has_shadow v name n || is_present f) here
 

@@ -1,16 +1,18 @@
 -- Steps of a run that only reads, in a row.
-use Rattle.std.proofs.Common.{◌≡◌, ◌==◌, ℕ, Bool, true, false, cond, refl, sym, ◌∙◌, ap, subst, List, [], ◌∷◌, ◌++◌, Option, Some, None, Result, Ok, Err, OnOk, OnErr, unwrap_or, append_assoc, append-nil}
-use Rattle.std.specs.Prelude.{MatchBool}
+use Rattle.std.proofs.Common.{◌≡◌, ℕ, Bool, true, false, cond, not, refl, sym, ◌∙◌, ap, subst, List, [], ◌∷◌, ◌++◌, Option, Some, None, Result, Ok, Err, OnOk, OnErr, unwrap_or, append_assoc, append-nil}
+use Rattle.std.specs.Prelude.{◌&&◌, ◌||◌, MatchBool, MatchOption}
+use Rattle.std.specs.Str.{bytes_eq}
 use Rattle.std.specs.List.{AllByRecursion}
-use Rattle.cckd_shelf.specs.Events.{Synced, Put}
 use Rattle.cckd_shelf.specs.declared.fault.Failed.{Failed}
-use Rattle.cckd_shelf.specs.Events.{Event, Bound, file_now, is_sure, is_name, name_of, ops_of}
+use Rattle.cckd_shelf.specs.Events.{Event, Synced, Put, Bound, Named, file_now, is_about, is_sure, is_name, name_of, was_bound, ops_of}
 use Rattle.cckd_shelf.specs.World.{World, file_of, held_by, after_bind, after_put, after_sync}
-use Rattle.cckd_shelf.specs.Outcomes.{AtEach, IsOutcome}
+use Rattle.cckd_shelf.specs.Outcomes.{AtEach, MayHave, MayBeLeft}
 use Rattle.cckd_shelf.proofs.MomentLemmas.{at_once, at_end, joins, next_at}
-use Rattle.cckd_shelf.proofs.OutcomeLemmas.{put_step, sync_step}
+use Rattle.cckd_shelf.proofs.NameLemmas.{text_is}
+use Rattle.cckd_shelf.proofs.OutcomeLemmas.{have_is_left}
 use Rattle.cckd_shelf.proofs.WorldLemmas.{bind_keeps}
-use Rattle.cckd_top.specs.World.{AreIntact, StayIntact, KeepsFiles, OnlyMakes, MakesSome, MakesThenPuts, OnlyTakes}
+use Rattle.cckd_lines.specs.Lines.{OnlyTakes}
+use Rattle.cckd_top.specs.World.{AreIntact, StayIntact, KeepsFiles, OnlyMakes, MakesSome, MakesThenPuts}
 
 pub all_twice : {X : Type 0} (P : X → Type 0) (xs ys : List X) → AllByRecursion P xs → AllByRecursion P ys → AllByRecursion P (xs ++ ys)
 all_twice P [] ys f g = g
@@ -30,46 +32,49 @@ intact_still : (a b : World) → b.events ≡ a.events → StayIntact a b
 intact_still a b same = λ w here before.
     subst (λ (events : List Event). AtEach a.events events (AreIntact w)) (sym same) (at_once (AreIntact w) a.events before)
 
-pub intact_at_put : (w : World) (bytes : List ℕ) → StayIntact w (after_put w bytes)
-intact_at_put w bytes = λ v here before.
-    next_at (AreIntact v) w (after_put w bytes) (Put bytes) refl before
-    (λ slot name named. put_step (λ file. file ≡ held_by v name) slot bytes w.events (before slot name named))
+pub intact_at_put : (w : World) (bytes : List ℕ) → StayIntact w (after_put bytes w)
+intact_at_put w bytes = λ v here before. next_at (AreIntact v) w (after_put bytes w) (Put bytes) refl before before
 
-pub intact_at_sync : (w : World) (slot : ℕ) → StayIntact w (after_sync w slot)
+left_before_sync : (b : Bool) (P Q : Type 0) → (P → Q) → MatchBool b P Q → Q
+left_before_sync true P Q f p = f p
+left_before_sync false P Q f q = q
+
+pub intact_at_sync : (w : World) (slot : ℕ) → StayIntact w (after_sync slot w)
 intact_at_sync w slot = λ v here before.
-    next_at (AreIntact v) w (after_sync w slot) (Synced slot) refl before
-    (λ other name named. sync_step (λ file. file ≡ held_by v name) other slot w.events (before other name named))
+    next_at (AreIntact v) w (after_sync slot w) (Synced slot) refl before
+    (λ name bound file left. before name bound file (left_before_sync (is_about w.events slot (Named name)) (MayHave w.events (Named name) file)
+    (MayBeLeft w.events (Named name) file) (have_is_left w.events (Named name) file) left))
 
--- a slot that gets the file of a name holds it, and another one that loses its name has none
-bound_intact : (here lost : Bool) (own : Option (List ℕ)) (name other bytes file : List ℕ) (v : World) (rest : Type 0)
-    → bytes ≡ held_by v name → (own ≡ Some other → rest → file ≡ held_by v other)
-    → cond here (Some name) (cond lost None own) ≡ Some other
-    → MatchBool here (file ≡ bytes) (MatchBool lost (file ≡ []) rest) → file ≡ held_by v other
-bound_intact true lost own name other bytes file v rest is before named outcome = outcome ∙ is ∙ ap (held_by v) (cc named)
-bound_intact false true own name other bytes file v rest is before named outcome = absurd (cc named)
-bound_intact false false own name other bytes file v rest is before named outcome = before named outcome
+-- a name that is bound for the first time has the bytes that come in, and any other is as it was
+bound_intact : (here bound : Bool) (bytes file : List ℕ) (rest goal : Type 0) → (here || bound) ≡ true → (here ≡ true → file ≡ bytes → goal)
+    → (bound ≡ true → rest → goal) → MatchOption (cond (here && not bound) (Some bytes) None) rest (λ (start : List ℕ). file ≡ start) → goal
+bound_intact true true bytes file rest goal some first later left = later refl left
+bound_intact true false bytes file rest goal some first later left = first refl left
+bound_intact false true bytes file rest goal some first later left = later refl left
+bound_intact false false bytes file rest goal some first later left = absurd (cc some)
 
-pub intact_at_bind : (w : World) (slot : ℕ) (name : List ℕ) → StayIntact w (after_bind w slot name)
+pub intact_at_bind : (w : World) (slot : ℕ) (name : List ℕ) → StayIntact w (after_bind slot name w)
 intact_at_bind w slot name =
     elim (is_name (name_of w.events slot) name) as (λ b. StayIntact w (cond b w (record w { events = Bound slot name (held_by w name) ∷ w.events }))) [
       | true ↦ intact_still w w refl
       | false ↦ λ v here before.
           next_at (AreIntact v) w (record w { events = Bound slot name (held_by w name) ∷ w.events }) (Bound slot name (held_by w name)) refl before
-          (λ other own named file outcome.
-          bound_intact (slot == other) (is_name (name_of w.events other) name) (name_of w.events other) name own (held_by w name) file v
-          (IsOutcome w.events other file) (ap (λ (files : List ℕ → Option (List ℕ)). unwrap_or (files name) []) (sym here))
-          (λ has left. before other own has file left) named outcome)
+          (λ other bound file left.
+          bound_intact (bytes_eq name other) (was_bound w.events other) (held_by w name) file (MayBeLeft w.events (Named other) file)
+          (file ≡ held_by v other) bound
+          (λ same is. is ∙ ap (λ (files : List ℕ → Option (List ℕ)). unwrap_or (files name) []) (sym here) ∙ ap (held_by v) (text_is name other same))
+          (λ known open. before other known file open) left)
     ]
 
 pub only_makes_nothing : (w : World) → OnlyMakes [] w w
 only_makes_nothing w = record { files = refl; made = sym (append-nil (ops_of w.events)); silent = refl; sure = refl; script = refl; intact = intact_still w w refl }
 
 -- a slot got the file of a name, or nothing happened
-pub bind_makes : (w new : World) (slot : ℕ) (name : List ℕ) (result : Result (Unit {0}) Failed) → OnOk result (new ≡ after_bind w slot name)
-    → OnErr result (new ≡ w) → OnlyMakes [] w new
-bind_makes w new slot name (Ok x) bound kept =
+pub bind_makes : (tells : Type 0) (w new : World) (slot : ℕ) (name : List ℕ) (result : Result (Unit {0}) Failed) → OnOk result (tells → new ≡ after_bind slot name w)
+    → OnErr result (tells → new ≡ w) → tells → OnlyMakes [] w new
+bind_makes tells w new slot name (Ok x) bound kept told =
     let keeps = bind_keeps w slot name in
-    subst (OnlyMakes [] w) (sym bound) (record {
+    subst (OnlyMakes [] w) (sym (bound told)) (record {
       files = keeps.files;
       made = keeps.ops ∙ sym (append-nil (ops_of w.events));
       silent = keeps.output;
@@ -77,7 +82,7 @@ bind_makes w new slot name (Ok x) bound kept =
       script = keeps.script;
       intact = intact_at_bind w slot name;
     })
-bind_makes w new slot name (Err e) bound kept = subst (OnlyMakes [] w) (sym kept) (only_makes_nothing w)
+bind_makes tells w new slot name (Err e) bound kept told = subst (OnlyMakes [] w) (sym (kept told)) (only_makes_nothing w)
 
 pub keeps_files_twice : (a b c : World) → KeepsFiles a b → KeepsFiles b c → KeepsFiles a c
 keeps_files_twice a b c f g = record {
@@ -131,6 +136,3 @@ takes_keeps a b h = keeps_files_still a b h.files h.events
 
 pub takes_file : (a b : World) → OnlyTakes a b → file_of b 0 ≡ file_of a 0
 takes_file a b h = ap (λ (events : List Event). file_now events 0) h.events
-
-pub only_takes_twice : (a b c : World) → OnlyTakes a b → OnlyTakes b c → OnlyTakes a c
-only_takes_twice a b c f g = record { files = g.files ∙ f.files; events = g.events ∙ f.events }

@@ -1,11 +1,11 @@
 -- What a run that only reads may do to the outside.
-use Rattle.std.specs.Prelude.{◌≡◌, ◌<◌, ⊤, ℕ, zero, suc, Bool, false, ◌||◌, List, ◌++◌, take, Some}
+use Rattle.std.specs.Prelude.{◌≡◌, ◌<◌, ⊤, ℕ, zero, suc, Bool, true, false, ◌||◌, List, ◌++◌, take, Some}
 use Rattle.std.specs.List.{AllByRecursion}
-use Rattle.cckd_shelf.specs.Events.{Event, Written, Torn, Cut, HalfCut, Synced, Put, Bound, ops_of, is_sure, output_of, name_of}
+use Rattle.cckd_shelf.specs.Events.{Event, Written, Torn, Cut, HalfCut, Synced, Put, Bound, Named, ops_of, is_sure, output_of, name_of, was_bound}
 use Rattle.cckd_shelf.specs.Faults.{Rose}
 use Rattle.cckd_shelf.specs.Seen.{Seen, Tells}
 use Rattle.cckd_shelf.specs.World.{World, file_of, held_by}
-use Rattle.cckd_shelf.specs.Outcomes.{EachOutcome, AtEach}
+use Rattle.cckd_shelf.specs.Outcomes.{MayBeLeft, AtEach}
 use Rattle.cckd_base.specs.Header.{is_present}
 use Rattle.cckd_top.specs.Names.{slot_name}
 
@@ -19,9 +19,9 @@ IsOutput (Synced slot) = ⊥
 IsOutput (Put bytes) = ⊤
 IsOutput (Bound slot name bytes) = ⊥
 
--- whatever a stop leaves, each slot that has a name holds what the name held in this world
+-- whatever a stop leaves, each name that a slot got once holds what it held in this world
 abbrev pub AreIntact : World → List Event → Type 0
-AreIntact w events = (slot : ℕ) (name : List ℕ) → name_of events slot ≡ Some name → EachOutcome slot (λ file. file ≡ held_by w name) events
+AreIntact w events = (name : List ℕ) → was_bound events name ≡ true → (file : List ℕ) → MayBeLeft events (Named name) file → file ≡ held_by w name
 
 -- the same at each moment from the old world to the new one, where it is so at the old one
 abbrev pub StayIntact : World → World → Type 0

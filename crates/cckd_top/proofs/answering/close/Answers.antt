@@ -3,7 +3,9 @@ use Rattle.std.proofs.Common.{refl, []}
 use Rattle.cckd_base.specs.declared.call.Call.TheVariants.{Close}
 use Rattle.cckd_base.specs.declared.reply.Reply.TheVariants.{Closed}
 use Rattle.cckd_script.specs.Text.{answered}
-use Rattle.cckd_top.proofs.ServingLemmas.{one_served, one_cut, line_is, none_fell_same, rose_by_none}
+use Rattle.cckd_top.proofs.ServingLemmas.{one_served, one_cut, line_is, rose_by_none}
+use Rattle.cckd_shelf.specs.declared.fault.Kind.TheVariants.{Puts}
+use Rattle.cckd_top.proofs.FaultLemmas.{none_fell_same, call_fell, raises_rose}
 use Rattle.cckd_top.proofs.answering.close.Goals as goal
 
 pub returns : goal.returns
@@ -11,10 +13,10 @@ returns g c =
     let w = g.T.Shows.world c.args.stage.now in
     let f = g.T.Shows.faults c.args.stage.now in
     one_served (T g.T.Shows.tells) _ c.args.l.now _ w w (g.T.Shows.world c.put_all.new.stage)
-    _ f _ (answered Close Closed []) c.put_all.result _
+    _ f _ (answered Close Closed []) _
     (λ told. refl) (rose_by_none f.reads) (λ told. refl) (none_fell_same f)
     (line_is c.print_reply-end.result _ c.args.output.now c.print_reply-end.new.line c.print_reply-end.ensures.printed)
-    c.put_all.ensures.files c.put_all.ensures.file c.put_all.ensures.script c.put_all.ensures.fails 0 refl
+    c.put_all.ensures.files c.put_all.ensures.file c.put_all.ensures.script (call_fell Puts c.put_all.result _ _ c.put_all.ensures.fails) 0 refl
     c.in-Ok.ensures.whole
 
 pub returns-in_default : goal.returns-in_default
@@ -22,8 +24,8 @@ returns-in_default g c =
     let w = g.T.Shows.world c.args.stage.now in
     let f = g.T.Shows.faults c.args.stage.now in
     one_cut (T g.T.Shows.tells) _ c.args.l.now _ w w (g.T.Shows.world c.put_all.new.stage)
-    _ f _ (answered Close Closed []) c.put_all.result _
+    _ f _ (answered Close Closed []) _
     (λ told. refl) (rose_by_none f.reads) (λ told. refl) (none_fell_same f)
     (line_is c.print_reply-end.result _ c.args.output.now c.print_reply-end.new.line c.print_reply-end.ensures.printed)
-    c.put_all.ensures.files c.put_all.ensures.file c.put_all.ensures.script c.put_all.ensures.fails (record {})
-    c.in_default.ensures.front c.in_default.ensures.fails.rose
+    c.put_all.ensures.files c.put_all.ensures.file c.put_all.ensures.script (call_fell Puts c.put_all.result _ _ c.put_all.ensures.fails) (record {})
+    c.in_default.ensures.front (raises_rose Puts _ _ c.in_default.ensures.fails.rose)

@@ -1,3 +1,4 @@
+use Rattle.std.specs.Prelude.{T}
 use Rattle.std.proofs.Common.{sym, subst}
 use Rattle.std.specs.Str.{IsUtf8}
 use Rattle.cckd_top.proofs.NameLemmas.{slot_name_text}
@@ -10,11 +11,11 @@ unreachable-requires g c =
     (subst IsUtf8 (sym c.put_shadow_name-end.ensures.name) (slot_name_text _ _ c.get-number.ensures.within c.utf8.file))
 
 pub returns-then-number-eq0-clause-idle : goal.returns-then-number-eq0-clause-idle
-returns-then-number-eq0-clause-idle g c = λ told.
-    bind_makes (g.T.Shows.world c.args.stage.now) (g.T.Shows.world c.bind.new.self) c.args.slot c.args.file.now c.bind.result
-    (c.bind.ensures.bound told) (c.bind.ensures.kept told)
+returns-then-number-eq0-clause-idle g c =
+    bind_makes (T g.T.Shows.tells) (g.T.Shows.world c.args.stage.now) (g.T.Shows.world c.bind.new.self) c.args.slot c.args.file.now c.bind.result
+    c.bind.ensures.bound c.bind.ensures.kept
 
 pub returns-clause-idle : goal.returns-clause-idle
-returns-clause-idle g c = λ told.
-    bind_makes (g.T.Shows.world c.args.stage.now) (g.T.Shows.world c.bind-in-Ok.new.self) c.args.slot c.in-Ok.name.now c.bind-in-Ok.result
-    (c.bind-in-Ok.ensures.bound told) (c.bind-in-Ok.ensures.kept told)
+returns-clause-idle g c =
+    bind_makes (T g.T.Shows.tells) (g.T.Shows.world c.args.stage.now) (g.T.Shows.world c.bind-in-Ok.new.self) c.args.slot c.in-Ok.name.now c.bind-in-Ok.result
+    c.bind-in-Ok.ensures.bound c.bind-in-Ok.ensures.kept

@@ -1,7 +1,6 @@
 use Rattle.std.proofs.Common.{[]}
 use Rattle.cckd_top.proofs.WorldLemmas.{only_makes_twice}
 use Rattle.cckd_top.proofs.Binding.{bound_none, bound_more, slot_is}
-use Rattle.cckd_top.proofs.FaultLemmas.{fails_quietly}
 use Rattle.cckd_top.proofs.names.bind_all.Goals as goal
 
 pub loop-number-init : goal.loop-number-init
@@ -11,7 +10,7 @@ pub loop-number-preserved : goal.loop-number-preserved
 loop-number-preserved g c =
     bound_more _ _ (g.T.Shows.world c.loop-number.stage) _ _ (g.T.Shows.faults c.loop-number.stage) _ _ c.loop-number.number c.unwrap-slot.result
     c.loop-number.invariant (slot_is c.new.result c.unwrap-slot.result _ c.new.ensures c.unwrap-slot.ensures)
-    c.in_ok-bind.ensures.bound c.in_ok-bind.ensures.idle (fails_quietly _ _ _ _ c.in_ok-bind.ensures.fails)
+    c.in_ok-bind.ensures.bound c.in_ok-bind.ensures.idle c.in_ok-bind.ensures.fails.still
 
 pub returns-in_err-bind-clause-idle : goal.returns-in_err-bind-clause-idle
 returns-in_err-bind-clause-idle g c = λ told.
