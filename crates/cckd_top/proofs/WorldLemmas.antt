@@ -63,7 +63,7 @@ intact_at_bind w slot name =
           bound_intact (bytes_eq name other) (was_bound w.events other) (held_by w name) file (MayBeLeft w.events (Named other) file)
           (file ≡ held_by v other) bound
           (λ same is. is ∙ ap (λ (files : List ℕ → Option (List ℕ)). unwrap_or (files name) []) (sym here) ∙ ap (held_by v) (text_is name other same))
-          (λ known open. before other known file open) left)
+          (λ known left_open. before other known file left_open) left)
     ]
 
 pub only_makes_nothing : (w : World) → OnlyMakes [] w w

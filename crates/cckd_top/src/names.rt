@@ -1,7 +1,7 @@
 //! The names of a disk's files, and the slots that get them.
 
 ghost use Rattle.std.specs.Prelude.{◌≡◌, ◌+◌, ◌<◌, ◌≤◌, [], length, take, IsTrue, OnOk};
-ghost use Rattle.cckd_shelf.specs.Seen.{seen, Tells, Fails};
+ghost use Rattle.cckd_shelf.specs.Seen.{seen, Tells, Makes, Fails};
 ghost use Rattle.cckd_shelf.specs.declared.fault.Kind.TheVariants.{Reads};
 ghost use Rattle.cckd_shelf.specs.World.{after_bind};
 ghost use Rattle.cckd_top.specs.Names.{slot_name};
@@ -30,8 +30,7 @@ fn put_shadow_name(file: &str, slot: u8, room: &mut [u8]) -> usize
 /// Gives a slot its file.
 fn bind<T: Stage>(stage: &mut T, slot: Slot, file: &str) -> Result<(), Failed>
     requires { IsTrue (is_file_word file.now) }
-    ensures bound { Tells (seen T.Shows stage.old) → OnOk result
-        ((seen T.Shows stage.new).world ≡ after_bind (seen T.Shows stage.old).world slot (slot_name file.now slot)) }
+    ensures bound { OnOk result (Makes (after_bind slot (slot_name file.now slot)) (seen T.Shows stage.old) (seen T.Shows stage.new)) }
     ensures idle { Tells (seen T.Shows stage.old) → OnlyMakes [] (seen T.Shows stage.old).world (seen T.Shows stage.new).world }
     ensures fails { Fails Reads result (seen T.Shows stage.old) (seen T.Shows stage.new) }
 {
