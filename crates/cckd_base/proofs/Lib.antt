@@ -1,4 +1,5 @@
 pub mod GrammarLemmas
+pub mod PutLemmas
 pub mod RecordLemmas
 pub mod TrackLemmas
 pub mod StopLemmas

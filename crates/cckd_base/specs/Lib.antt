@@ -1,4 +1,5 @@
 pub mod Numbers
+pub mod Put
 pub mod Geometry
 pub mod Device
 pub mod Entry
