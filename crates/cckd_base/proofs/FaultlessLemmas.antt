@@ -13,7 +13,7 @@ use Rattle.cckd_base.specs.Geometry.{IsGeometry}
 use Rattle.cckd_base.specs.Track.{CountKeyData, address_bytes, spelled_track, spelling, end_mark, AreRecords, IsTrack, key_length, body_length, may_stand, end_verdict, record_at, records_fault, track_fault}
 use Rattle.cckd_base.proofs.GrammarLemmas.{IsBytes, IsBytes-drop}
 use Rattle.cckd_base.proofs.StopLemmas.{RecordsStop, records_stop}
-use Rattle.cckd_base.proofs.TrackLemmas.{HasHome, home_passed, too_long, no_home, compressed, elsewhere, track_passes}
+use Rattle.cckd_base.proofs.TrackLemmas.{HasHome, home_passed, starts_home, parts_faultless, accepted_length_lem, track_passes}
 
 -- ---- what a place says at which no record stands
 
@@ -69,19 +69,8 @@ ended at bytes e =
 
 pub has_home : (geo : Geometry) (t : ℕ) (bytes : List ℕ) → track_fault geo t bytes ≡ None → HasHome geo t bytes
 has_home geo t bytes none =
-    elim (cases_lt geo.track_size (length bytes)) [
-      | inl more ↦ let e = too_long geo t bytes more in absurd cc
-      | inr within ↦ elim (cases_lt (length bytes) 5) [
-        | inl short ↦ let e = no_home geo t bytes within short in absurd cc
-        | inr long ↦ elim (cases_eq (get_or bytes 0 0 % 4) 0) [
-          | inl plain ↦ elim (cases_Bool (bytes_eq (take 4 (drop 1 bytes)) (address_bytes (t / geo.heads) (t % geo.heads)))) [
-            | inl here ↦ record { within = within; long = long; plain = plain; here = (bytes_eq-Decides _ _).0 here }
-            | inr other ↦ let e = elsewhere geo t bytes within long plain other in absurd cc
-          ]
-          | inr other ↦ let e = compressed geo t bytes within long other in absurd cc
-        ]
-      ]
-    ]
+    let home = starts_home geo t bytes (parts_faultless geo t bytes none).home in
+    record { within = (accepted_length_lem geo t bytes none).1; long = home.long; plain = home.plain; here = home.here }
 
 home_split : (bytes : List ℕ) → 5 ≤ length bytes → bytes ≡ get_or bytes 0 0 ∷ (take 4 (drop 1 bytes) ++ drop 5 bytes)
 home_split [] long = absurd (omega arith)

@@ -1,4 +1,5 @@
 pub mod GrammarLemmas
+pub mod NumberLemmas
 pub mod PutLemmas
 pub mod RecordLemmas
 pub mod TrackLemmas

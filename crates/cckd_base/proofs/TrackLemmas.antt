@@ -1,5 +1,5 @@
 -- A track of the grammar has no fault, and null tracks are tracks.
-use Rattle.std.proofs.Common.{◌≡◌, ℕ, zero, suc, ◌+◌, ◌/◌, ◌%◌, ◌^◌, ◌<◌, ◌≤◌, ◌≢◌, true, false, eqb, ltb, List, [], ◌∷◌, ◌++◌, length, get_or, take, drop, Option, Some, None, refl, sym, ap, subst, ◌∙◌, arith, inl, inr, append_assoc, length-append, length-drop}
+use Rattle.std.proofs.Common.{◌≡◌, ℕ, zero, suc, ◌+◌, ◌/◌, ◌%◌, ◌^◌, ◌<◌, ◌≤◌, ◌≢◌, true, false, eqb, ltb, List, [], ◌∷◌, ◌++◌, length, get_or, take, drop, Option, Some, None, Result, refl, sym, ap, subst, ◌∙◌, arith, inl, inr, append_assoc, length-append, length-drop}
 use Rattle.std.specs.List.{flat_map, AllByRecursion}
 use Rattle.std.specs.Int.{w16, from_be_bytes}
 use Rattle.std.specs.Option.{option_or}
@@ -11,8 +11,8 @@ use Rattle.std.proofs.lemmas.Slice.Eq.{bytes_eq-Decides}
 use Rattle.cckd_base.specs.declared.geometry.Geometry.{Geometry}
 use Rattle.cckd_base.specs.declared.fault.TrackFault.{TrackFault}
 use Rattle.cckd_base.specs.declared.fault.TrackFault.TheVariants.{TooLong, NoEnd, Compressed, WrongTrack}
-use Rattle.cckd_base.specs.Geometry.{track_count, IsGeometry, IsNullFormat}
-use Rattle.cckd_base.specs.Track.{CountKeyData, address_bytes, spelled_track, spelling, end_mark, FitsCount, IsRecordZero, IsUserRecord, AreRecords, IsTrack, null_record_zero, null_record_one, null_records, null_track, body_length, may_stand, records_fault, size_fault, home_fault, track_fault, track_value}
+use Rattle.cckd_base.specs.Geometry.{track_count, address_of, IsGeometry, IsNullFormat}
+use Rattle.cckd_base.specs.Track.{CountKeyData, address_bytes, spelled_track, spelling, end_mark, FitsCount, IsRecordZero, IsUserRecord, AreRecords, IsTrack, null_record_zero, null_record_one, null_records, null_track, body_length, may_stand, records_fault, size_fault, home_fault, track_fault, track_value, OkUnless}
 use Rattle.cckd_base.proofs.RecordLemmas.{IsCount, count_stands, verdict_stands, record_passed}
 
 -- ---- a record that is spelled is counted
@@ -104,34 +104,26 @@ home_passed geo t bytes h =
 
 -- ---- the faults of a home address
 
-pub too_long : (geo : Geometry) (t : ℕ) (bytes : List ℕ) → geo.track_size < length bytes → track_fault geo t bytes ≡ Some (TooLong (length bytes) geo.track_size)
-unfolding track_fault home_fault
-too_long geo t bytes more =
-    let long : ltb geo.track_size (length bytes) ≡ true = lt-ltb _ _ more in
-    rw long refl
-
-pub no_home : (geo : Geometry) (t : ℕ) (bytes : List ℕ) → length bytes ≤ geo.track_size → length bytes < 5 → track_fault geo t bytes ≡ Some (NoEnd (length bytes))
-unfolding track_fault home_fault
-no_home geo t bytes within short =
-    let fits : ltb geo.track_size (length bytes) ≡ false = le-ltb _ _ within in
+pub too_few : (geo : Geometry) (t : ℕ) (bytes : List ℕ) → length bytes < 5 → home_fault geo t bytes ≡ Some (NoEnd (length bytes))
+unfolding home_fault
+too_few geo t bytes short =
     let few : ltb (length bytes) 5 ≡ true = lt-ltb _ _ short in
-    rw (fits, few) refl
+    rw few refl
 
-pub compressed : (geo : Geometry) (t : ℕ) (bytes : List ℕ) → length bytes ≤ geo.track_size → 5 ≤ length bytes → get_or bytes 0 0 % 4 ≢ 0 → track_fault geo t bytes ≡ Some (Compressed (get_or bytes 0 0))
-unfolding track_fault home_fault
-compressed geo t bytes within long other =
-    let fits : ltb geo.track_size (length bytes) ≡ false = le-ltb _ _ within in
+pub compressed : (geo : Geometry) (t : ℕ) (bytes : List ℕ) → 5 ≤ length bytes → get_or bytes 0 0 % 4 ≢ 0 → home_fault geo t bytes ≡ Some (Compressed (get_or bytes 0 0))
+unfolding home_fault
+compressed geo t bytes long other =
     let enough : ltb (length bytes) 5 ≡ false = le-ltb _ _ long in
     let named : eqb (get_or bytes 0 0 % 4) 0 ≡ false = ne_eqb _ _ other in
-    rw (fits, enough, named) refl
+    rw (enough, named) refl
 
-pub elsewhere : (geo : Geometry) (t : ℕ) (bytes : List ℕ) → length bytes ≤ geo.track_size → 5 ≤ length bytes → get_or bytes 0 0 % 4 ≡ 0 → bytes_eq (take 4 (drop 1 bytes)) (address_bytes (t / geo.heads) (t % geo.heads)) ≡ false → track_fault geo t bytes ≡ Some (WrongTrack (from_be_bytes w16 (take 2 (drop 1 bytes))) (from_be_bytes w16 (take 2 (drop 3 bytes))))
-unfolding track_fault home_fault
-elsewhere geo t bytes within long plain other =
-    let fits : ltb geo.track_size (length bytes) ≡ false = le-ltb _ _ within in
+pub elsewhere : (geo : Geometry) (t : ℕ) (bytes : List ℕ) → 5 ≤ length bytes → get_or bytes 0 0 % 4 ≡ 0 → bytes_eq (take 4 (drop 1 bytes)) (address_bytes (t / geo.heads) (t % geo.heads)) ≡ false
+    → home_fault geo t bytes ≡ Some (WrongTrack (from_be_bytes w16 (take 2 (drop 1 bytes))) (from_be_bytes w16 (take 2 (drop 3 bytes))))
+unfolding home_fault
+elsewhere geo t bytes long plain other =
     let enough : ltb (length bytes) 5 ≡ false = le-ltb _ _ long in
     let none : eqb (get_or bytes 0 0 % 4) 0 ≡ true = eq-eqb _ _ plain in
-    rw (fits, enough, none, other) refl
+    rw (enough, none, other) refl
 
 -- ---- what is spelled passes
 
@@ -170,7 +162,7 @@ head_fits : (geo : Geometry) (t : ℕ) → IsGeometry geo → t % geo.heads < 2 
 head_fits geo t shape =
     omega (arith, shape.most_heads, mod_below t geo.heads (omega (arith, shape.some_heads)))
 
-null_record_zero_fits : (geo : Geometry) (t : ℕ) → IsGeometry geo → t < track_count geo → IsRecordZero (null_record_zero geo t)
+null_record_zero_fits : (geo : Geometry) (t : ℕ) → IsGeometry geo → t < track_count geo → IsRecordZero (null_record_zero (address_of geo t))
 null_record_zero_fits geo t shape lt = record {
   fits = record { cylinder = cylinder_fits geo t shape lt; head = head_fits geo t shape; number = omega arith; key = omega arith; body = omega arith };
   number = refl;
@@ -178,13 +170,13 @@ null_record_zero_fits geo t shape lt = record {
   body = refl;
 }
 
-null_record_one_fits : (geo : Geometry) (t : ℕ) → IsGeometry geo → t < track_count geo → IsUserRecord (null_record_one geo t)
+null_record_one_fits : (geo : Geometry) (t : ℕ) → IsGeometry geo → t < track_count geo → IsUserRecord (null_record_one (address_of geo t))
 null_record_one_fits geo t shape lt = record {
   fits = record { cylinder = cylinder_fits geo t shape lt; head = head_fits geo t shape; number = omega arith; key = omega arith; body = omega arith };
   number = omega arith;
 }
 
-null_records_fit : (geo : Geometry) (t format : ℕ) → IsGeometry geo → t < track_count geo → IsNullFormat geo format → AreRecords (null_records geo t format)
+null_records_fit : (geo : Geometry) (t format : ℕ) → IsGeometry geo → t < track_count geo → IsNullFormat geo format → AreRecords (null_records (address_of geo t) format)
 null_records_fit geo t zero shape lt admitted = (null_record_zero_fits geo t shape lt, (null_record_one_fits geo t shape lt, tt))
 null_records_fit geo t (suc zero) shape lt admitted = (null_record_zero_fits geo t shape lt, tt)
 null_records_fit geo t (suc (suc format)) shape lt admitted = absurd (omega arith)
@@ -194,7 +186,7 @@ pub null_is_track : (geo : Geometry) (t format : ℕ) → IsGeometry geo → t <
 unfolding null_track
 null_is_track geo t format shape lt admitted = (
   0,
-  null_records geo t format,
+  null_records (address_of geo t) format,
   record {
     spelled = refl;
     uncompressed = refl;
@@ -247,14 +239,14 @@ home_stands geo t bytes h =
     rw (long, plain, here) refl
 
 -- whether there is a fault of the home address, and which, is seen in the first five bytes
-pub home_in_front : (geo : Geometry) (t : ℕ) (bytes : List ℕ) → home_fault geo t (take 5 bytes) ≡ home_fault geo t bytes
+pub home_in_front_lem : (geo : Geometry) (t : ℕ) (bytes : List ℕ) → home_fault geo t (take 5 bytes) ≡ home_fault geo t bytes
 unfolding home_fault
-home_in_front geo t [] = refl
-home_in_front geo t (a ∷ []) = refl
-home_in_front geo t (a ∷ b ∷ []) = refl
-home_in_front geo t (a ∷ b ∷ c ∷ []) = refl
-home_in_front geo t (a ∷ b ∷ c ∷ d ∷ []) = refl
-home_in_front geo t (a ∷ b ∷ c ∷ d ∷ e ∷ bytes) =
+home_in_front_lem geo t [] = refl
+home_in_front_lem geo t (a ∷ []) = refl
+home_in_front_lem geo t (a ∷ b ∷ []) = refl
+home_in_front_lem geo t (a ∷ b ∷ c ∷ []) = refl
+home_in_front_lem geo t (a ∷ b ∷ c ∷ d ∷ []) = refl
+home_in_front_lem geo t (a ∷ b ∷ c ∷ d ∷ e ∷ bytes) =
     let long : ltb (length (a ∷ b ∷ c ∷ d ∷ e ∷ bytes)) 5 ≡ false = le-ltb _ _ (omega arith) in
     rw long refl
 
@@ -319,6 +311,25 @@ pub value_once_lem : (bytes : List ℕ) → track_value (track_value bytes) ≡ 
 value_once_lem bytes = refl
 
 -- a null track is its own value
-pub null_value_lem : (geo : Geometry) (t format : ℕ) → track_value (null_track geo t format) ≡ null_track geo t format
+pub null_value_lem : (geo : Geometry) (t format : ℕ) → IsNullFormat geo format → track_value (null_track geo t format) ≡ null_track geo t format
 unfolding null_track spelled_track
-null_value_lem geo t format = refl
+null_value_lem geo t format admitted = refl
+
+-- ---- the first fault, part by part
+
+pub size_found : (geo : Geometry) (t : ℕ) (bytes : List ℕ) (fault : TrackFault) → size_fault geo bytes ≡ Some fault → track_fault geo t bytes ≡ Some fault
+unfolding track_fault
+size_found geo t bytes fault found = ap (λ (first : Option TrackFault). option_or first (option_or (home_fault geo t bytes) (records_fault 5 0 (drop 5 bytes)))) found
+
+pub home_found : (geo : Geometry) (t : ℕ) (bytes : List ℕ) (fault : TrackFault) → size_fault geo bytes ≡ None → home_fault geo t bytes ≡ Some fault → track_fault geo t bytes ≡ Some fault
+unfolding track_fault
+home_found geo t bytes fault fits found =
+    (λ i. option_or (fits i) (option_or (found i) (records_fault 5 0 (drop 5 bytes))))
+
+pub records_left : (answer : Result (Unit {0}) TrackFault) (geo : Geometry) (t : ℕ) (bytes : List ℕ) → size_fault geo bytes ≡ None → home_fault geo t bytes ≡ None
+    → OkUnless answer (records_fault 5 0 (drop 5 bytes)) → OkUnless answer (track_fault geo t bytes)
+unfolding track_fault
+records_left answer geo t bytes fits home left =
+    let same : records_fault 5 0 (drop 5 bytes) ≡ option_or (size_fault geo bytes) (option_or (home_fault geo t bytes) (records_fault 5 0 (drop 5 bytes))) =
+    λ i. option_or (sym fits i) (option_or (sym home i) (records_fault 5 0 (drop 5 bytes))) in
+    subst (OkUnless answer) same left

@@ -5,8 +5,10 @@ use Rattle.std.specs.Option.{option_or}
 use Rattle.std.specs.Int.{w16, to_be_bytes, from_be_bytes}
 use Rattle.std.specs.Str.{bytes_eq}
 use Rattle.cckd_base.specs.declared.geometry.Geometry.{Geometry}
+use Rattle.cckd_base.specs.declared.geometry.Addr.{Addr}
 use Rattle.cckd_base.specs.declared.fault.TrackFault.{TrackFault}
 use Rattle.cckd_base.specs.declared.fault.TrackFault.TheVariants.{TooLong, NoEnd, Compressed, WrongTrack, BadRecord}
+use Rattle.cckd_base.specs.Geometry.{address_of}
 
 -- a record: the address in its count, its number, key and data
 pub record CountKeyData : Type 0 where
@@ -74,35 +76,23 @@ pub record IsTrackOf (geo : Geometry) (t : ℕ) (bytes : List ℕ) (flag : ℕ) 
 abbrev pub IsTrack : Geometry → ℕ → List ℕ → Type 0
 IsTrack geo t bytes = (flag : ℕ) × (records : List CountKeyData) × IsTrackOf geo t bytes flag records
 
--- a record zero of eight zero bytes, with the track's own address
-abbrev pub null_record_zero : Geometry → ℕ → CountKeyData
-null_record_zero geo t = record {
-  cylinder = t / geo.heads;
-  head = t % geo.heads;
-  number = 0;
-  key = [];
-  body = replicate 8 0;
-}
+-- a record zero of eight zero bytes, with this address
+abbrev pub null_record_zero : Addr → CountKeyData
+null_record_zero a = record { cylinder = a.cyl; head = a.head; number = 0; key = []; body = replicate 8 0 }
 
 -- a record one without key and data
-abbrev pub null_record_one : Geometry → ℕ → CountKeyData
-null_record_one geo t = record {
-  cylinder = t / geo.heads;
-  head = t % geo.heads;
-  number = 1;
-  key = [];
-  body = [];
-}
+abbrev pub null_record_one : Addr → CountKeyData
+null_record_one a = record { cylinder = a.cyl; head = a.head; number = 1; key = []; body = [] }
 
 -- the records of a null track, by its format: both of these, or record zero alone
-abbrev pub null_records : Geometry → ℕ → ℕ → List CountKeyData
-null_records geo t zero = null_record_zero geo t ∷ null_record_one geo t ∷ []
-null_records geo t (suc zero) = null_record_zero geo t ∷ []
-null_records geo t (suc (suc format)) = []
+abbrev pub null_records : Addr → ℕ → List CountKeyData
+null_records a zero = null_record_zero a ∷ null_record_one a ∷ []
+null_records a (suc zero) = null_record_zero a ∷ []
+null_records a (suc (suc format)) = []
 
 -- the bytes of a null track
 unfoldable pub null_track : Geometry → ℕ → ℕ → List ℕ
-null_track geo t format = spelled_track geo t 0 (null_records geo t format)
+null_track geo t format = spelled_track geo t 0 (null_records (address_of geo t) format)
 
 -- the bytes of a track that was accepted, without the other bits of the flag byte
 abbrev pub track_value : List ℕ → List ℕ
