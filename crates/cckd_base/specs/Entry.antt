@@ -39,6 +39,11 @@ word_at l file group = number_at l.order w32 file (1024 + 4 * group)
 abbrev pub entry_in_table : Layout → List ℕ → ℕ → ℕ → L2Entry
 entry_in_table l file table t = entry_of l.order (bytes_at file (table + 8 * (t % 256)) 8)
 
+-- the entry that a level-one word gives to all tracks of its group, where it names no table
+abbrev pub group_entry : Layout → ℕ → Option L2Entry
+group_entry l word =
+    if word == 0 then Some (null_entry l.null_fmt) else if word == see_parent then Some parent_entry else None
+
 -- the entry that a level-one word gives a track: a word 0 and a see-parent word speak for the whole group
 abbrev pub entry_by_word : Layout → List ℕ → ℕ → ℕ → L2Entry
 entry_by_word l file word t =
