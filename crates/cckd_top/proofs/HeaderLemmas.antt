@@ -66,42 +66,21 @@ decoded_some : (o : Option HeaderFault) (h : ImageHeader) (fault : HeaderFault) 
 decoded_some None h fault e = absurd (cc e)
 decoded_some (Some other) h fault e = cc e
 
-first_test : (b : Bool) (fault : HeaderFault) (cases : List (Bool × HeaderFault)) → first_case ((b, fault) ∷ cases) ≡ None → b ≡ false
-first_test true fault cases e = absurd (cc e)
-first_test false fault cases e = refl
-
-tail_of : List (Bool × HeaderFault) → List (Bool × HeaderFault)
-tail_of [] = []
-tail_of (c ∷ cs) = cs
-
--- a base is no shadow
-base_is_no_shadow : (headers : List ℕ) (len : ℕ) → header_fault (base_identifier ∷ []) headers len ≡ None
-    → bytes_eq (identifier headers) shadow_identifier ≡ false
-unfolding header_fault tail_of
-base_is_no_shadow headers len e =
-    let named = not-false _ (or_parts (nat_lt len 1024) _ (first_test (nat_lt len 1024 || not (list_any (bytes_eq (identifier headers)) (base_identifier ∷ []))) (fault.NotCckd (identifier headers)) (tail_of (header_cases (base_identifier ∷ []) (judged_in headers) len)) e)).1 in
-    let is_base : identifier headers ≡ base_identifier =
-    ⊎_elim (λ (h : bytes_eq (identifier headers) base_identifier ≡ true). (bytes_eq-Decides (identifier headers) base_identifier).0 h)
-    (λ (h : false ≡ true). absurd (false≢true h))
-    (or_cases (bytes_eq (identifier headers) base_identifier) false named) in
-    ap (λ (x : List ℕ). bytes_eq x shadow_identifier) is_base
-
 -- headers that were decoded
 pub sound_headers : (file headers : List ℕ) (len n : ℕ) (header : ImageHeader) (l : Layout) (r : Result ImageHeader HeaderFault)
     → headers ≡ headers_of file → len ≡ length file
     → r ≡ decoded (header_fault (base_identifier ∷ []) headers len) (header_of headers) → r ≡ Ok header
-    → IsHeader header len → layout_by header ≡ layout_of headers → l ≡ layout_by header → n ≡ len
+    → layout_by header ≡ layout_of headers → l ≡ layout_by header → n ≡ len
     → HasSoundHeaders file l n
-sound_headers file headers len n header l r read measured answer ok is says by cut =
+sound_headers file headers len n header l r read measured answer ok says by cut =
     let none : header_fault (base_identifier ∷ []) headers len ≡ None = decoded_none _ (header_of headers) header (sym answer ∙ ok) in
-    let layout : l ≡ layout_of headers = by ∙ says in
     record {
-      sound = subst (λ (h : List ℕ). header_fault (base_identifier ∷ []) h (length file) ≡ None) read
-          (subst (λ (m : ℕ). header_fault (base_identifier ∷ []) headers m ≡ None) measured none);
-      says = layout ∙ ap layout_of read;
+      headed = record {
+        sound = subst (λ (h : List ℕ). header_fault (base_identifier ∷ []) h (length file) ≡ None) read
+            (subst (λ (m : ℕ). header_fault (base_identifier ∷ []) headers m ≡ None) measured none);
+        says = by ∙ says ∙ ap layout_of read;
+      };
       measured = cut ∙ measured;
-      base = ap (λ (x : Layout). x.shadow) layout ∙ base_is_no_shadow headers len none;
-      short = omega (arith, is.fits.1, measured);
     }
 
 pub bad_headers : (file headers : List ℕ) (len : ℕ) (fault : HeaderFault) (r : Result ImageHeader HeaderFault)
@@ -112,11 +91,3 @@ bad_headers file headers len fault r read measured answer err =
     subst (λ (h : List ℕ). header_fault (base_identifier ∷ []) h (length file) ≡ Some fault) read
     (subst (λ (m : ℕ). header_fault (base_identifier ∷ []) headers m ≡ Some fault) measured
     (decoded_some _ (header_of headers) fault (sym answer ∙ err)))
-
--- the layout of headers that were accepted
-pub layout_is : (h : ImageHeader) (len : ℕ) (l : Layout) → IsHeader h len → l ≡ layout_by h → IsLayout l
-layout_is h len l is e =
-    subst IsLayout (sym e) (record { geometry = is.shape; groups = refl; format = is.format })
-
-pub area_is : (h : ImageHeader) (len n : ℕ) (l : Layout) → IsHeader h len → l ≡ layout_by h → n ≡ len → area_of l.groups ≤ n
-area_is h len n l is e cut = omega (arith, is.fits.0, cut, ap (λ (x : Layout). x.groups) e)

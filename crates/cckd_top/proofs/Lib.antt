@@ -2,7 +2,6 @@ pub mod FaultLemmas
 pub mod WorldLemmas
 pub mod NameLemmas
 pub mod Putting
-pub mod CleanLemmas
 pub mod ReplyLemmas
 pub mod ServingLemmas
 pub mod ScriptLemmas

@@ -12,7 +12,7 @@ use Rattle.cckd_shelf.specs.Events.{output_of}
 use Rattle.cckd_shelf.specs.World.{World, IsSure, IsTied, file_of, held_by, after_sync}
 use Rattle.cckd_top.specs.declared.halt.Halt.{Halt}
 use Rattle.cckd_top.specs.declared.halt.Halt.TheVariants as halt
-use Rattle.cckd_top.specs.Opening.{bad_header, has_misfit, not_yet, ready, opening_by, opening_of, base_fault, file_layout, IsBaseOf, HasBaseCause}
+use Rattle.cckd_top.specs.Opening.{bad_header, has_misfit, not_yet, ready, opening_by, opening_of, base_fault, file_layout, IsBase, HasBaseCause}
 use Rattle.cckd_top.specs.Run.{HasHaltCause, HaltMakes, IsBaseSync, opening_in}
 use Rattle.cckd_top.specs.World.{OnlyMakes, MakesSome, AreNamed, has_shadow, holds_shadow}
 use Rattle.cckd_top.proofs.WorldLemmas.{only_makes_twice, intact_at_sync}
@@ -108,21 +108,21 @@ opening_misfit_by None [] above l misfit e m = absurd (cc m)
 opening_misfit_by None (other ∷ ms) above l misfit e m = cc m
 opening_misfit_by (Some fault) ms above l misfit e m = absurd (cc e)
 
-no_misfits : (file : List ℕ) (l : Layout) → IsBaseOf file l → misfits (file_layout file) file ≡ []
-no_misfits file l is = subst (λ (x : Layout). misfits x file ≡ []) is.says is.mounted.clean
+no_misfits : (file : List ℕ) (l : Layout) → IsBase l file → misfits (file_layout file) file ≡ []
+no_misfits file l is = subst (λ (x : Layout). misfits x file ≡ []) is.headed.says is.clean
 
-pub opens : (w : World) (name file : List ℕ) (l : Layout) (above : Bool) → file ≡ held_by w name → IsBaseOf file l
+pub opens : (w : World) (name file : List ℕ) (l : Layout) (above : Bool) → file ≡ held_by w name → IsBase l file
     → above ≡ has_shadow w name 8 → above ≡ false → opening_in w name ≡ ready l
 opens w name file l above same is found none =
     subst (λ (f : List ℕ). opening_of f (has_shadow w name 8) ≡ ready l) same
-    (opening_ready_by (base_fault file) (misfits (file_layout file) file) (has_shadow w name 8) (file_layout file) is.sound (no_misfits file l is) (sym found ∙ none)
-    ∙ ap ready (sym is.says))
+    (opening_ready_by (base_fault file) (misfits (file_layout file) file) (has_shadow w name 8) (file_layout file) is.headed.sound (no_misfits file l is) (sym found ∙ none)
+    ∙ ap ready (sym is.headed.says))
 
-pub opens_not_yet : (w : World) (name file : List ℕ) (l : Layout) (above : Bool) → file ≡ held_by w name → IsBaseOf file l
+pub opens_not_yet : (w : World) (name file : List ℕ) (l : Layout) (above : Bool) → file ≡ held_by w name → IsBase l file
     → above ≡ has_shadow w name 8 → above ≡ true → opening_in w name ≡ not_yet
 opens_not_yet w name file l above same is found some =
     subst (λ (f : List ℕ). opening_of f (has_shadow w name 8) ≡ not_yet) same
-    (opening_not_yet_by (base_fault file) (misfits (file_layout file) file) (has_shadow w name 8) (file_layout file) is.sound (no_misfits file l is) (sym found ∙ some))
+    (opening_not_yet_by (base_fault file) (misfits (file_layout file) file) (has_shadow w name 8) (file_layout file) is.headed.sound (no_misfits file l is) (sym found ∙ some))
 
 -- why the base isn't opened is why the disk isn't mounted
 halts_by_base : (told later : Type 0) (w : World) (name file : List ℕ) (first before after : Faults) (why : Halt)

@@ -3,59 +3,53 @@ use Rattle.std.proofs.Common.{◌≡◌, ◌≢◌, ℕ, ◌+◌, ◌/◌, ◌<�
 use Rattle.std.proofs.Math.Seq.{take-append_seam, take-length}
 use Rattle.std.proofs.lemmas.Bool.{false≢true, eq-eqb, ne_eqb, or_parts, ltb-false}
 use borrow.Author.Tests.{ltb-true}
+use Rattle.cckd_base.specs.declared.geometry.Geometry.{Geometry}
 use Rattle.cckd_base.specs.declared.geometry.Layout.{Layout}
 use Rattle.cckd_base.specs.declared.entry.L2Entry.{L2Entry}
 use Rattle.cckd_base.specs.declared.misfit.Misfit.{Misfit}
 use Rattle.cckd_base.specs.declared.reply.Reply.TheVariants as reply
-use Rattle.cckd_base.specs.Geometry.{track_count, IsLayout, IsNullFormat}
+use Rattle.cckd_base.specs.Geometry.{track_count, IsGeometry, IsLayout, IsNullFormat}
 use Rattle.cckd_base.specs.Entry.{see_parent, null_entry, parent_entry, word_at, entry_by_word, entry_in_table, entry_at, bytes_by_entry}
 use Rattle.cckd_base.specs.Misfit.{is_missized, table_misfit, entry_misfit}
 use Rattle.cckd_base.specs.Numbers.{bytes_at}
-use Rattle.cckd_base.specs.Track.{null_track, spelled_track, track_fault, track_value}
+use Rattle.cckd_base.specs.Track.{null_track, track_fault, track_value}
 use Rattle.cckd_base.specs.Answer.{reply_by_fault}
 use Rattle.cckd_base.proofs.FaultlessLemmas.{has_home}
-use Rattle.cckd_base.proofs.TrackLemmas.{null_passes_lem, null_fits_lem}
-use Rattle.cckd_top.specs.Opening.{IsMounted}
-use Rattle.cckd_top.specs.Lookup.{group_entry}
+use Rattle.cckd_base.specs.Header.{base_identifier}
+use Rattle.cckd_base.proofs.HeaderLemmas.{headed_layout, headed_base}
+use Rattle.cckd_base.proofs.ImageLemmas.{word_fits, entry_fits}
+use Rattle.cckd_base.proofs.TrackLemmas.{null_passes_lem, null_fits_lem, null_value_lem, value_length_lem}
+use Rattle.cckd_top.specs.Opening.{IsBase}
+use Rattle.cckd_base.specs.Entry.{group_entry}
 use Rattle.cckd_top.specs.Reading.{IsReplyTo, visible}
-use Rattle.cckd_top.proofs.CleanLemmas.{clean_word, clean_entry}
 
 -- bytes that the track check accepts have a flag byte
-pub has_flag : (l : Layout) (t : ℕ) (bytes : List ℕ) → track_fault l t bytes ≡ None → 0 < length bytes
-has_flag l t bytes e = let home = has_home l t bytes e in omega arith
-
--- the value of a null track is the null track
-value_of_null : (l : Layout) (t format : ℕ) → track_value (null_track l t format) ≡ null_track l t format
-unfolding null_track spelled_track
-value_of_null l t format = refl
+pub has_flag : (geo : Geometry) (t : ℕ) (bytes : List ℕ) → track_fault geo t bytes ≡ None → 0 < length bytes
+has_flag geo t bytes e = let home = has_home geo t bytes e in omega arith
 
 -- the buffer holds the null track
-pub null_replied : (l : Layout) (t format n : ℕ) (old new : List ℕ) → IsLayout l → t < track_count l.geo → IsNullFormat l.geo format
-    → n ≡ length (null_track l t format) → new ≡ null_track l t format ++ drop n old
-    → IsReplyTo l t (null_track l t format) (reply.Track n) (take n new)
-null_replied l t format n old new layout track known count written = record {
+pub null_replied : (geo : Geometry) (t format n : ℕ) (old new : List ℕ) → IsGeometry geo → t < track_count geo → IsNullFormat geo format
+    → n ≡ length (null_track geo t format) → new ≡ null_track geo t format ++ drop n old
+    → IsReplyTo geo t (null_track geo t format) (reply.Track n) (take n new)
+null_replied geo t format n old new shape track known count written = record {
   replied =
-      ap reply.Track count ∙ ap (reply_by_fault (null_track l t format)) (sym (null_passes_lem l t format layout track known));
+      ap reply.Track count ∙ ap (reply_by_fault (null_track geo t format)) (sym (null_passes_lem geo t format shape track known));
   valued = λ _.
-      ap (λ (m : ℕ). take m new) count ∙ ap (take (length (null_track l t format))) written
-      ∙ take-append_seam (null_track l t format) (drop n old)
-      ∙ sym (value_of_null l t format);
+      ap (λ (m : ℕ). take m new) count ∙ ap (take (length (null_track geo t format))) written
+      ∙ take-append_seam (null_track geo t format) (drop n old)
+      ∙ sym (null_value_lem geo t format known);
 }
 
 -- a null track is no longer than a line has room for
-pub null_is_short : (l : Layout) (t format n : ℕ) → IsLayout l → IsNullFormat l.geo format → n ≡ length (null_track l t format) → n ≤ 65024
-null_is_short l t format n layout known count =
-    let fits = null_fits_lem l t format layout known in omega (arith, layout.geometry.greatest_track)
-
-length_of_value : (bytes : List ℕ) → 0 < length bytes → length (track_value bytes) ≡ length bytes
-length_of_value [] some = absurd (omega (arith, some))
-length_of_value (b ∷ bytes) some = refl
+pub null_is_short : (geo : Geometry) (t format n : ℕ) → IsGeometry geo → IsNullFormat geo format → n ≡ length (null_track geo t format) → n ≤ 65024
+null_is_short geo t format n shape known count =
+    let fits = null_fits_lem geo t format shape known in omega (arith, shape.greatest_track)
 
 -- the buffer holds the value of the bytes that it held
-pub stored_replied : (l : Layout) (t : ℕ) (old new : List ℕ) → track_fault l t old ≡ None → new ≡ track_value old
-    → IsReplyTo l t old (reply.Track (length new)) (take (length new) new)
-stored_replied l t old new sound cleared =
-    let same : length new ≡ length old = ap length cleared ∙ length_of_value old (has_flag l t old sound) in
+pub stored_replied : (geo : Geometry) (t : ℕ) (old new : List ℕ) → track_fault geo t old ≡ None → new ≡ track_value old
+    → IsReplyTo geo t old (reply.Track (length new)) (take (length new) new)
+stored_replied geo t old new sound cleared =
+    let same : length new ≡ length old = ap length cleared ∙ value_length_lem geo t old sound in
     record {
       replied = ap reply.Track same ∙ ap (reply_by_fault old) (sym sound);
       valued = λ _. take-length new ∙ cleared;
@@ -109,36 +103,26 @@ group_parts true q a b e = absurd (cc e)
 group_parts false true a b e = absurd (cc e)
 group_parts false false a b e = (refl, refl)
 
-module _ (l : Layout) (file : List ℕ) (t : ℕ) (mounted : IsMounted l file) (track : t < track_count l.geo) where
+module _ (l : Layout) (file : List ℕ) (t : ℕ) (mounted : IsBase l file) (track : t < track_count l.geo) where
+  layout : IsLayout l
+  layout = headed_layout (base_identifier ∷ []) l file mounted.headed
+
   group_less : t / 256 < l.groups
-  group_less = omega (arith, mounted.layout.groups, track)
+  group_less = let shape = layout in omega (arith, shape.groups, track)
 
   -- a word that speaks for no whole group names a table inside the file
   pub table_inside : (word : ℕ) → word ≡ word_at l file (t / 256) → group_entry l word ≡ None → word + 2048 ≤ length file
   table_inside word is none =
       let facts = group_parts (word == 0) (word == see_parent) (null_entry l.null_fmt) parent_entry none in
       let clean : table_misfit l (length file) (t / 256) word ≡ None =
-      subst (λ (w : ℕ). table_misfit l (length file) (t / 256) w ≡ None) (sym is) (clean_word l file mounted.clean (t / 256) group_less) in
-      let placed = (table_cases _ _ _ _ _ _ mounted.base clean facts.0).1 in
+      subst (λ (w : ℕ). table_misfit l (length file) (t / 256) w ≡ None) (sym is) (word_fits l file mounted.clean (t / 256) group_less) in
+      let placed = (table_cases _ _ _ _ _ _ (headed_base l file mounted.headed) clean facts.0).1 in
       ltb-false (length file) (word + 2048) (or_parts _ _ placed).1
-
-  fits_by : (p q : Bool) → (word_at l file (t / 256) == 0) ≡ p → (word_at l file (t / 256) == see_parent) ≡ q
-      → FitsFile file (cond p (null_entry l.null_fmt) (cond q parent_entry (entry_in_table l file (word_at l file (t / 256)) t)))
-  fits_by true q e f = record {
-    null = λ _. mounted.layout.format;
-    stored = λ is. absurd (is refl);
-    here = λ is. absurd (omega (arith, is));
-  }
-  fits_by false true e f =
-      let facts = table_cases _ _ _ _ _ _ mounted.base (clean_word l file mounted.clean (t / 256) group_less) e in
-      absurd (false≢true (sym facts.0 ∙ f))
-  fits_by false false e f =
-      fits_no_misfit l file t (entry_in_table l file (word_at l file (t / 256)) t) mounted.base
-      (clean_entry l file mounted.clean t group_less track (not_equal _ 0 e) (not_equal _ see_parent f))
 
   -- the entry of each track
   pub fits : FitsFile file (entry_at l file t)
-  fits = fits_by (word_at l file (t / 256) == 0) (word_at l file (t / 256) == see_parent) refl refl
+  fits =
+      fits_no_misfit l file t (entry_at l file t) (headed_base l file mounted.headed) (entry_fits l file layout mounted.clean t track)
 
 -- an entry that a word gives to its whole group is that of each track, and else the table has it
 pub entry_of_word : (l : Layout) (file : List ℕ) (t word : ℕ) → word ≡ word_at l file (t / 256)
@@ -166,14 +150,14 @@ stored_by false false x y e f = refl
 
 -- the visible bytes of a track with a null entry, and with one of stored bytes
 pub visible_null : (l : Layout) (file : List ℕ) (t : ℕ) (e : L2Entry) → e ≡ entry_at l file t → e.pos ≡ 0
-    → visible l file t ≡ null_track l t e.len
+    → visible l file t ≡ null_track l.geo t e.len
 visible_null l file t e is null =
     ap (λ (x : L2Entry). unwrap_or (bytes_by_entry null_track l file t x) []) (sym is)
-    ∙ visible_by (e.pos == 0) (e.pos == see_parent) (null_track l t e.len) (bytes_at file e.pos e.len) (eq-eqb e.pos 0 null)
+    ∙ visible_by (e.pos == 0) (e.pos == see_parent) (null_track l.geo t e.len) (bytes_at file e.pos e.len) (eq-eqb e.pos 0 null)
 
 pub visible_stored : (l : Layout) (file : List ℕ) (t : ℕ) (e : L2Entry) → e ≡ entry_at l file t → e.pos ≢ 0 → e.pos ≢ see_parent
     → visible l file t ≡ bytes_at file e.pos e.len
 visible_stored l file t e is some here =
     ap (λ (x : L2Entry). unwrap_or (bytes_by_entry null_track l file t x) []) (sym is)
-    ∙ stored_by (e.pos == 0) (e.pos == see_parent) (null_track l t e.len) (bytes_at file e.pos e.len)
+    ∙ stored_by (e.pos == 0) (e.pos == see_parent) (null_track l.geo t e.len) (bytes_at file e.pos e.len)
     (ne_eqb e.pos 0 some) (ne_eqb e.pos see_parent here)

@@ -24,7 +24,7 @@ use Rattle.cckd_lines.specs.declared.lines.Next.{Next}
 use Rattle.cckd_lines.specs.declared.lines.Next.TheVariants as next
 use Rattle.cckd_top.specs.declared.serving.Stop.TheVariants as stop
 use Rattle.cckd_lines.specs.Lines.{OnlyTakes, IsPlace, IsAtEnd, IsNext, BreaksOff, allowance, pending}
-use Rattle.cckd_top.specs.Opening.{IsMounted}
+use Rattle.cckd_top.specs.Opening.{IsBase}
 use Rattle.cckd_top.specs.Serving.{IsLegal, HasServed, Serves, RoseBy, read_faults, worst, items_of_next, is_last, OfAFront, ServesScript}
 use Rattle.cckd_top.specs.World.{KeepsFiles, PutsFront}
 use Rattle.cckd_top.proofs.FaultLemmas.{none_fell_same, none_fell_twice}
@@ -166,9 +166,9 @@ module _ (tells : Type 0) (l : Layout) (limit : ℕ) (w now between then : World
     file_between told = takes_file now between (only told) ∙ so_far.slot told
 
     -- the base is still the one that was mounted
-    pub still_mounted : (tells → IsSure w → IsMounted l (file_of w 0)) → tells → IsSure between → IsMounted l (file_of between 0)
+    pub still_mounted : (tells → IsSure w → IsBase l (file_of w 0)) → tells → IsSure between → IsBase l (file_of between 0)
     still_mounted mounted told sure =
-        subst (IsMounted l) (sym (file_between told)) (mounted told (subst IsTrue (keeps_between told).sure sure))
+        subst (IsBase l) (sym (file_between told)) (mounted told (subst IsTrue (keeps_between told).sure sure))
 
     module _ (result : Result ℕ Failed)
         (serves : Serves tells (tells × IsSure between) l (file_of between 0) between then asked served (items_of_next room' found) result)

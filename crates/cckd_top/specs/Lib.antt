@@ -2,7 +2,6 @@ pub mod Words
 pub mod Names
 pub mod World
 pub mod Opening
-pub mod Lookup
 pub mod Reading
 pub mod Serving
 pub mod Text

@@ -3,7 +3,7 @@ use Rattle.std.specs.Prelude.{◌≡◌, ◌≤◌, ⊤, ℕ, Bool, false, if◌
 use Rattle.cckd_base.specs.declared.geometry.Layout.{Layout}
 use Rattle.cckd_base.specs.declared.fault.HeaderFault.{HeaderFault}
 use Rattle.cckd_base.specs.declared.misfit.Misfit.{Misfit}
-use Rattle.cckd_base.specs.Geometry.{area_of, format_limit, IsLayout}
+use Rattle.cckd_base.specs.Image.{IsHeaded, IsSound}
 use Rattle.cckd_base.specs.Header.{base_identifier, headers_of, header_fault, layout_of}
 use Rattle.cckd_base.specs.Survey.{misfits}
 use Rattle.cckd_tables.specs.Scan.{first_misfit}
@@ -40,27 +40,14 @@ file_layout file = layout_of (headers_of file)
 abbrev pub opening_of : List ℕ → Bool → Opening
 opening_of file above = opening_by (base_fault file) (misfits (file_layout file) file) above (file_layout file)
 
--- a base of this layout whose tables have no misfit
-pub record IsMounted (l : Layout) (file : List ℕ) : Type 0 where
-  pub layout : IsLayout l
-  pub base : l.shadow ≡ false
-  pub area : area_of l.groups ≤ length file
-  pub short : length file ≤ format_limit
-  pub clean : misfits l file ≡ []
+-- a sound base of this layout
+abbrev pub IsBase : Layout → List ℕ → Type 0
+IsBase l file = IsSound (base_identifier ∷ []) l file
 
--- the headers of a base have no fault, and say this layout
+-- the headers of a base have no fault, and say this layout; the file has this length
 pub record HasSoundHeaders (file : List ℕ) (l : Layout) (len : ℕ) : Type 0 where
-  pub sound : base_fault file ≡ None
-  pub says : l ≡ file_layout file
+  pub headed : IsHeaded (base_identifier ∷ []) l file
   pub measured : len ≡ length file
-  pub base : l.shadow ≡ false
-  pub short : length file ≤ format_limit
-
--- the layout is that of a base whose headers and tables are sound
-pub record IsBaseOf (file : List ℕ) (l : Layout) : Type 0 where
-  pub sound : base_fault file ≡ None
-  pub says : l ≡ file_layout file
-  pub mounted : IsMounted l file
 
 -- why a survey of a base has no answer
 abbrev pub HasSurveyCause : Type 0 → Layout → List ℕ → Faults → Faults → Halt → Type 0

@@ -2,6 +2,7 @@
 use Rattle.std.specs.Prelude.{◌≡◌, ◌≤◌, ⊤, ℕ, IsSome, List, [], Option, Some, None, unwrap_or}
 use Rattle.cckd_base.specs.declared.geometry.Addr.{Addr}
 use Rattle.cckd_base.specs.declared.geometry.Track.{Track}
+use Rattle.cckd_base.specs.declared.geometry.Geometry.{Geometry}
 use Rattle.cckd_base.specs.declared.geometry.Layout.{Layout}
 use Rattle.cckd_base.specs.declared.reply.Reply.{Reply}
 use Rattle.cckd_base.specs.declared.reply.Reply.TheVariants as reply
@@ -18,14 +19,14 @@ visible l file t = unwrap_or (stored_bytes null_track l file t) []
 
 -- The layered disk's reply to a read of a track whose visible bytes are these. Where the track check finds no fault, the
 -- bytes answered are the track's value.
-pub record IsReplyTo (l : Layout) (t : ℕ) (bytes : List ℕ) (given : Reply) (answered : List ℕ) : Type 0 where
-  pub replied : given ≡ read_reply l t bytes
-  pub valued : track_fault l t bytes ≡ None → answered ≡ track_value bytes
+pub record IsReplyTo (geo : Geometry) (t : ℕ) (bytes : List ℕ) (given : Reply) (answered : List ℕ) : Type 0 where
+  pub replied : given ≡ read_reply geo t bytes
+  pub valued : track_fault geo t bytes ≡ None → answered ≡ track_value bytes
 
 -- the layered disk's reply to a read at an address, which may have a track
 abbrev pub IsDisksReply : Layout → List ℕ → Option Track → Reply → List ℕ → Type 0
 IsDisksReply l file None given answered = given ≡ reply.Refused refusal.NoSuchTrack
-IsDisksReply l file (Some t) given answered = IsReplyTo l t.0 (visible l file t.0) given answered
+IsDisksReply l file (Some t) given answered = IsReplyTo l.geo t.0 (visible l file t.0) given answered
 
 -- what may be said to a read at an address: the disk's reply, or a fault of reading where the address has a track
 pub data AnswersRead (l : Layout) (file : List ℕ) (at : Addr) (given : Reply) (answered : List ℕ) : Type 0 where

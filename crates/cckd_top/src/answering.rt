@@ -6,7 +6,7 @@ ghost use Rattle.cckd_shelf.specs.World.{IsSure, file_of};
 ghost use Rattle.cckd_base.specs.Geometry.{IsLayout};
 ghost use Rattle.cckd_script.specs.Items.{line_items};
 ghost use Rattle.cckd_script.specs.declared.misread.Item.TheVariants as items;
-ghost use Rattle.cckd_top.specs.Opening.{IsMounted};
+ghost use Rattle.cckd_top.specs.Opening.{IsBase};
 ghost use Rattle.cckd_top.specs.Serving.{ServesItems, reply_status};
 
 use crate::reading::read_at;
@@ -39,7 +39,7 @@ fn answer_read<T: Stage>(
 ) -> Result<u8, Failed>
     requires base { base ≡ 0 }
     requires layout { IsLayout l.now }
-    requires mounted { Tells (seen T.Shows stage.old) → IsSure (seen T.Shows stage.old).world → IsMounted l.now (file_of (seen T.Shows stage.old).world 0) }
+    requires mounted { Tells (seen T.Shows stage.old) → IsSure (seen T.Shows stage.old).world → IsBase l.now (file_of (seen T.Shows stage.old).world 0) }
     requires track { 65536 ≤ length track.old }
     requires output { LINE_ROOM ≤ length output.old }
     ensures { ServesItems l.now (seen T.Shows stage.old) (seen T.Shows stage.new) (items.Asked (Call.Read at) ∷ []) result }
@@ -92,7 +92,7 @@ fn answer<T: Stage>(
 ) -> Result<u8, Failed>
     requires base { base ≡ 0 }
     requires layout { IsLayout l.now }
-    requires mounted { Tells (seen T.Shows stage.old) → IsSure (seen T.Shows stage.old).world → IsMounted l.now (file_of (seen T.Shows stage.old).world 0) }
+    requires mounted { Tells (seen T.Shows stage.old) → IsSure (seen T.Shows stage.old).world → IsBase l.now (file_of (seen T.Shows stage.old).world 0) }
     requires track { 65536 ≤ length track.old }
     requires output { LINE_ROOM ≤ length output.old }
     ensures { ServesItems l.now (seen T.Shows stage.old) (seen T.Shows stage.new) (items.Asked call ∷ []) result }
@@ -114,7 +114,7 @@ pub fn answer_line<T: Stage>(
 ) -> Result<u8, Failed>
     requires base { base ≡ 0 }
     requires layout { IsLayout l.now }
-    requires mounted { Tells (seen T.Shows stage.old) → IsSure (seen T.Shows stage.old).world → IsMounted l.now (file_of (seen T.Shows stage.old).world 0) }
+    requires mounted { Tells (seen T.Shows stage.old) → IsSure (seen T.Shows stage.old).world → IsBase l.now (file_of (seen T.Shows stage.old).world 0) }
     requires line { length line.now ≤ LINE_LIMIT }
     requires track { 65536 ≤ length track.old }
     requires output { LINE_ROOM ≤ length output.old }

@@ -6,8 +6,8 @@ ghost use Rattle.cckd_shelf.specs.declared.fault.Kind.TheVariants.{Reads};
 ghost use Rattle.cckd_shelf.specs.World.{IsSure, file_of};
 ghost use Rattle.cckd_base.specs.Geometry.{track_count, IsLayout};
 ghost use Rattle.cckd_base.specs.Entry.{word_at, entry_in_table, entry_at};
-ghost use Rattle.cckd_top.specs.Lookup.{group_entry};
-ghost use Rattle.cckd_top.specs.Opening.{IsMounted};
+ghost use Rattle.cckd_base.specs.Entry.{group_entry};
+ghost use Rattle.cckd_top.specs.Opening.{IsBase};
 
 use cckd_base::{GROUP_TRACKS, L2Entry, Layout, SEE_PARENT, Track, WORDS_AT};
 use cckd_shelf::{Failed, Slot, Stage};
@@ -15,7 +15,7 @@ use cckd_shelf::{Failed, Slot, Stage};
 /// The level-one word of a group.
 fn word_of<T: Stage>(stage: &mut T, base: Slot, l: &Layout, group: u32) -> Result<u32, Failed>
     requires base { base ≡ 0 }
-    requires mounted { Tells (seen T.Shows stage.old) → IsSure (seen T.Shows stage.old).world → IsMounted l.now (file_of (seen T.Shows stage.old).world 0) }
+    requires mounted { Tells (seen T.Shows stage.old) → IsSure (seen T.Shows stage.old).world → IsBase l.now (file_of (seen T.Shows stage.old).world 0) }
     requires group { group < l.now.groups }
     ensures word { Tells (seen T.Shows stage.old) → IsSure (seen T.Shows stage.old).world
         → IfOk result (λ word. word ≡ word_at l.now (file_of (seen T.Shows stage.old).world 0) group) }
@@ -79,7 +79,7 @@ pub fn entry_of<T: Stage>(
 ) -> Result<L2Entry, Failed>
     requires base { base ≡ 0 }
     requires layout { IsLayout l.now }
-    requires mounted { Tells (seen T.Shows stage.old) → IsSure (seen T.Shows stage.old).world → IsMounted l.now (file_of (seen T.Shows stage.old).world 0) }
+    requires mounted { Tells (seen T.Shows stage.old) → IsSure (seen T.Shows stage.old).world → IsBase l.now (file_of (seen T.Shows stage.old).world 0) }
     requires track { t.0 < track_count l.now.geo }
     ensures entry { Tells (seen T.Shows stage.old) → IsSure (seen T.Shows stage.old).world
         → IfOk result (λ e. e ≡ entry_at l.now (file_of (seen T.Shows stage.old).world 0) t.0) }

@@ -6,7 +6,7 @@ ghost use Rattle.cckd_shelf.specs.Faults.{NoneFell};
 ghost use Rattle.cckd_shelf.specs.declared.fault.Kind.TheVariants.{Reads};
 ghost use Rattle.cckd_shelf.specs.World.{IsSure, file_of, held_by};
 ghost use Rattle.cckd_base.specs.Geometry.{area_of, IsLayout};
-ghost use Rattle.cckd_top.specs.Opening.{IsMounted, IsBaseOf, HasSoundHeaders, IsBaseCause, IsSurveyCause};
+ghost use Rattle.cckd_top.specs.Opening.{IsBase, HasSoundHeaders, IsBaseCause, IsSurveyCause};
 ghost use Rattle.cckd_base.specs.Survey.{HasNoMisfit};
 ghost use Rattle.cckd_top.specs.Opening.{ready};
 ghost use Rattle.cckd_top.specs.Run.{IsHaltCause, HaltMakes, IsBaseSync, opening_in};
@@ -99,7 +99,7 @@ fn base_layout<T: Stage>(stage: &mut T, base: Slot) -> Result<(Layout, u32), Hal
 fn open_base<T: Stage>(stage: &mut T, alloc: Global, base: Slot) -> Result<Layout, Halt>
     requires { base ≡ 0 }
     ensures layout { IfOk result IsLayout }
-    ensures opened { Tells (seen T.Shows stage.old) → IsSure (seen T.Shows stage.old).world → IfOk result (IsBaseOf (file_of (seen T.Shows stage.old).world 0)) }
+    ensures opened { Tells (seen T.Shows stage.old) → IsSure (seen T.Shows stage.old).world → IfOk result (λ l. IsBase l (file_of (seen T.Shows stage.old).world 0)) }
     ensures cause { IfErr result (IsBaseCause (seen T.Shows stage.old) (seen T.Shows stage.new)) }
     ensures kept { Stays (seen T.Shows stage.old) (seen T.Shows stage.new) }
     ensures fell { NoneFell (seen T.Shows stage.old).faults (seen T.Shows stage.new).faults }
@@ -117,7 +117,7 @@ pub fn mount<T: Stage>(stage: &mut T, alloc: Global, base: Slot, file: &str) -> 
     ensures layout { IfOk result IsLayout }
     ensures opened { Tells (seen T.Shows stage.old) → IsSure (seen T.Shows stage.old).world
         → IfOk result (λ l. opening_in (seen T.Shows stage.old).world file.now ≡ ready l) }
-    ensures mounted { Tells (seen T.Shows stage.old) → IsSure (seen T.Shows stage.old).world → IfOk result (λ l. IsMounted l (file_of (seen T.Shows stage.new).world 0)) }
+    ensures mounted { Tells (seen T.Shows stage.old) → IsSure (seen T.Shows stage.old).world → IfOk result (λ l. IsBase l (file_of (seen T.Shows stage.new).world 0)) }
     ensures base { Tells (seen T.Shows stage.old) → OnOk result (file_of (seen T.Shows stage.new).world 0 ≡ held_by (seen T.Shows stage.old).world file.now) }
     ensures cause { IfErr result (IsHaltCause file.now (seen T.Shows stage.old) (seen T.Shows stage.new)) }
     ensures synced { Tells (seen T.Shows stage.old) → OnOk result (MakesSome IsBaseSync (seen T.Shows stage.old).world (seen T.Shows stage.new).world) }

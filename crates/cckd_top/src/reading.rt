@@ -9,7 +9,7 @@ ghost use Rattle.cckd_base.specs.Geometry.{track_count, IsLayout, IsNullFormat};
 ghost use Rattle.cckd_base.specs.Entry.{entry_at};
 ghost use Rattle.cckd_base.specs.Track.{null_track, track_value};
 ghost use Rattle.cckd_script.specs.Text.{answered_length, answered_bytes};
-ghost use Rattle.cckd_top.specs.Opening.{IsMounted};
+ghost use Rattle.cckd_top.specs.Opening.{IsBase};
 ghost use Rattle.cckd_top.specs.Reading.{IsReplyTo, AnswersRead, visible, reply_faults, IsTrackReply, IsReadReply};
 ghost use Rattle.cckd_top.specs.Serving.{RoseBy};
 
@@ -24,21 +24,13 @@ fn null_reply(l: &Layout, t: Track, format: u8, out: &mut [u8]) -> Reply
     requires track { t.0 < track_count l.now.geo }
     requires format { IsNullFormat l.now.geo format }
     requires room { 65536 ≤ length out.old }
-    ensures reply { IsReplyTo l.now t.0 (null_track l.now t.0 format) result (answered_bytes result out.new) }
+    ensures reply { IsReplyTo l.now.geo t.0 (null_track l.now.geo t.0 format) result (answered_bytes result out.new) }
     ensures short { IsTrackReply result }
 {
-    let len = Ckd::null(l, t, format, out);
+    let len = Ckd::null(&l.geo, t, format, out);
     Reply::Track {
         len: u32::from(len),
     }
-}
-
-/// Clears the flag byte, in which bits that name no compression may stand.
-fn clear_flag(bytes: &mut [u8])
-    requires { 0 < length bytes.old }
-    ensures { bytes.new ≡ track_value bytes.old }
-{
-    bytes[0] = 0;
 }
 
 /// The reply to a read of a track with these stored bytes, which are made its value.
@@ -46,13 +38,13 @@ fn stored_reply(l: &Layout, t: Track, bytes: &mut [u8]) -> Reply
     requires layout { IsLayout l.now }
     requires track { t.0 < track_count l.now.geo }
     requires length { length bytes.old ≤ 65535 }
-    ensures reply { IsReplyTo l.now t.0 bytes.old result (answered_bytes result bytes.new) }
+    ensures reply { IsReplyTo l.now.geo t.0 bytes.old result (answered_bytes result bytes.new) }
     ensures short { IsTrackReply result }
     ensures within { answered_length result ≤ length bytes.new }
 {
-    match Ckd::check(l, t, bytes) {
+    match Ckd::check(&l.geo, t, bytes) {
         Ok(()) => {
-            clear_flag(bytes);
+            Ckd::settle(bytes);
             Reply::Track {
                 len: bytes.len() as u32,
             }
@@ -81,12 +73,12 @@ fn reply_by<T: Stage>(
 ) -> Result<Reply, Failed>
     requires base { base ≡ 0 }
     requires layout { IsLayout l.now }
-    requires mounted { Tells (seen T.Shows stage.old) → IsSure (seen T.Shows stage.old).world → IsMounted l.now (file_of (seen T.Shows stage.old).world 0) }
+    requires mounted { Tells (seen T.Shows stage.old) → IsSure (seen T.Shows stage.old).world → IsBase l.now (file_of (seen T.Shows stage.old).world 0) }
     requires track { t.0 < track_count l.now.geo }
     requires entry { Tells (seen T.Shows stage.old) → IsSure (seen T.Shows stage.old).world → entry ≡ entry_at l.now (file_of (seen T.Shows stage.old).world 0) t.0 }
     requires room { 65536 ≤ length out.old }
     ensures reply { Tells (seen T.Shows stage.old) → IsSure (seen T.Shows stage.old).world → IfOk result (λ given.
-        IsReplyTo l.now t.0 (visible l.now (file_of (seen T.Shows stage.old).world 0) t.0) given (answered_bytes given out.new)) }
+        IsReplyTo l.now.geo t.0 (visible l.now (file_of (seen T.Shows stage.old).world 0) t.0) given (answered_bytes given out.new)) }
     ensures short { IfOk result IsTrackReply }
     ensures kept { Stays (seen T.Shows stage.old) (seen T.Shows stage.new) }
     ensures fails { Fails Reads result (seen T.Shows stage.old) (seen T.Shows stage.new) }
@@ -110,11 +102,11 @@ fn read_track<T: Stage>(
 ) -> Result<Reply, Failed>
     requires base { base ≡ 0 }
     requires layout { IsLayout l.now }
-    requires mounted { Tells (seen T.Shows stage.old) → IsSure (seen T.Shows stage.old).world → IsMounted l.now (file_of (seen T.Shows stage.old).world 0) }
+    requires mounted { Tells (seen T.Shows stage.old) → IsSure (seen T.Shows stage.old).world → IsBase l.now (file_of (seen T.Shows stage.old).world 0) }
     requires track { t.0 < track_count l.now.geo }
     requires room { 65536 ≤ length out.old }
     ensures reply { Tells (seen T.Shows stage.old) → IsSure (seen T.Shows stage.old).world → IfOk result (λ given.
-        IsReplyTo l.now t.0 (visible l.now (file_of (seen T.Shows stage.old).world 0) t.0) given (answered_bytes given out.new)) }
+        IsReplyTo l.now.geo t.0 (visible l.now (file_of (seen T.Shows stage.old).world 0) t.0) given (answered_bytes given out.new)) }
     ensures short { IfOk result IsTrackReply }
     ensures kept { Stays (seen T.Shows stage.old) (seen T.Shows stage.new) }
     ensures fails { Fails Reads result (seen T.Shows stage.old) (seen T.Shows stage.new) }
@@ -128,7 +120,7 @@ fn read_track<T: Stage>(
 pub fn read_at<T: Stage>(stage: &mut T, base: Slot, l: &Layout, at: Addr, out: &mut [u8]) -> Reply
     requires base { base ≡ 0 }
     requires layout { IsLayout l.now }
-    requires mounted { Tells (seen T.Shows stage.old) → IsSure (seen T.Shows stage.old).world → IsMounted l.now (file_of (seen T.Shows stage.old).world 0) }
+    requires mounted { Tells (seen T.Shows stage.old) → IsSure (seen T.Shows stage.old).world → IsBase l.now (file_of (seen T.Shows stage.old).world 0) }
     requires room { 65536 ≤ length out.old }
     ensures answers { Tells (seen T.Shows stage.old) → IsSure (seen T.Shows stage.old).world
         → AnswersRead l.now (file_of (seen T.Shows stage.old).world 0) at result (answered_bytes result out.new) }

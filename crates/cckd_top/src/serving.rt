@@ -5,7 +5,7 @@ ghost use Rattle.cckd_shelf.specs.Seen.{seen, Tells};
 ghost use Rattle.cckd_shelf.specs.World.{IsSure, file_of};
 ghost use Rattle.cckd_base.specs.Geometry.{IsLayout};
 ghost use Rattle.cckd_lines.specs.Lines.{LiesIn, IsShort};
-ghost use Rattle.cckd_top.specs.Opening.{IsMounted};
+ghost use Rattle.cckd_top.specs.Opening.{IsBase};
 ghost use Rattle.cckd_top.specs.Serving.{ServesItems, ServesWhole, items_of_next, is_last};
 
 use crate::answering::{answer_line, close, refuse};
@@ -37,7 +37,7 @@ fn serve_next<T: Stage>(
 ) -> Result<u8, Failed>
     requires base { base ≡ 0 }
     requires layout { IsLayout l.now }
-    requires mounted { Tells (seen T.Shows stage.old) → IsSure (seen T.Shows stage.old).world → IsMounted l.now (file_of (seen T.Shows stage.old).world 0) }
+    requires mounted { Tells (seen T.Shows stage.old) → IsSure (seen T.Shows stage.old).world → IsBase l.now (file_of (seen T.Shows stage.old).world 0) }
     requires lies { LiesIn room.now next }
     requires short { IsShort next }
     requires track { 65536 ≤ length track.old }
@@ -79,7 +79,7 @@ pub fn serve<T: Stage>(
 ) -> Stop
     requires base { base ≡ 0 }
     requires layout { IsLayout l.now }
-    requires mounted { Tells (seen T.Shows stage.old) → IsSure (seen T.Shows stage.old).world → IsMounted l.now (file_of (seen T.Shows stage.old).world 0) }
+    requires mounted { Tells (seen T.Shows stage.old) → IsSure (seen T.Shows stage.old).world → IsBase l.now (file_of (seen T.Shows stage.old).world 0) }
     requires room { LINE_LIMIT + 2 ≤ length room.old }
     requires track { 65536 ≤ length track.old }
     requires output { LINE_ROOM ≤ length output.old }

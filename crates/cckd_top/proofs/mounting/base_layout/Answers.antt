@@ -1,6 +1,8 @@
-use Rattle.std.proofs.Common.{refl, ◌∙◌}
+use Rattle.std.proofs.Common.{refl, sym, ◌∙◌, ap, subst, arith}
+use Rattle.cckd_base.specs.declared.geometry.Layout.{Layout}
+use Rattle.cckd_base.specs.Geometry.{IsLayout}
 use Rattle.cckd_shelf.specs.World.{file_of}
-use Rattle.cckd_top.proofs.HeaderLemmas.{filled, sound_headers, bad_headers, layout_is, area_is}
+use Rattle.cckd_top.proofs.HeaderLemmas.{filled, sound_headers, bad_headers}
 use Rattle.cckd_top.proofs.mounting.base_layout.Goals as goal
 
 pub returns-in-Ok-decode-clause-sound : goal.returns-in-Ok-decode-clause-sound
@@ -8,7 +10,7 @@ returns-in-Ok-decode-clause-sound g c = λ told sure.
     let file = file_of (g.T.Shows.world c.args.stage.now) 0 in
     sound_headers file c.read_headers.new.headers c.in-Ok.len _ c.in-Ok-decode.header c.layout.result c.decode.result
     (c.in-Ok.ensures.headers told sure ∙ filled 1024 file)
-    (c.in-Ok.ensures.length told sure) c.decode.ensures.answer c.in-Ok-decode.is c.in-Ok-decode.ensures.sound c.in-Ok-decode.ensures.layout
+    (c.in-Ok.ensures.length told sure) c.decode.ensures.answer c.in-Ok-decode.is c.in-Ok-decode.ensures.layout
     c.layout.ensures refl
 
 pub returns-in-Err-clause-cause : goal.returns-in-Err-clause-cause
@@ -19,9 +21,9 @@ returns-in-Err-clause-cause g c = λ told.
     (c.in-Ok.ensures.length told.0 told.1) c.decode.ensures.answer c.in-Err.is
 
 pub returns-in-Ok-decode-clause-layout : goal.returns-in-Ok-decode-clause-layout
-returns-in-Ok-decode-clause-layout g c =
-    layout_is c.in-Ok-decode.header c.in-Ok.len c.layout.result c.in-Ok-decode.ensures.sound c.layout.ensures
+returns-in-Ok-decode-clause-layout g c = subst IsLayout (sym c.layout.ensures) c.in-Ok-decode.ensures.image
 
 pub returns-in-Ok-decode-clause-area : goal.returns-in-Ok-decode-clause-area
 returns-in-Ok-decode-clause-area g c =
-    area_is c.in-Ok-decode.header c.in-Ok.len c.in-Ok.len c.layout.result c.in-Ok-decode.ensures.sound c.layout.ensures refl
+    let area = c.in-Ok-decode.ensures.area in
+    omega (arith, area.0, ap (λ (x : Layout). x.groups) c.layout.ensures)

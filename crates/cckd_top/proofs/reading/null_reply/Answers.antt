@@ -9,11 +9,11 @@ pub returns-clause-reply : goal.returns-clause-reply
 returns-clause-reply c =
     let l = c.args.l.now in
     let t = c.args.t.0 in
-    subst (λ (n : ℕ). IsReplyTo l t (null_track l t c.args.format) (reply.Track n) (take n c.null-len.new.out)) (sym c.from.ensures)
-    (null_replied l t c.args.format c.null-len.result c.args.out.now c.null-len.new.out c.requires.layout c.requires.track
+    subst (λ (n : ℕ). IsReplyTo l.geo t (null_track l.geo t c.args.format) (reply.Track n) (take n c.null-len.new.out)) (sym c.from.ensures)
+    (null_replied l.geo t c.args.format c.null-len.result c.args.out.now c.null-len.new.out c.requires.layout.geometry c.requires.track
     c.requires.format c.null-len.ensures.length c.null-len.ensures.written)
 
 pub returns-clause-short : goal.returns-clause-short
 returns-clause-short c =
     subst (λ (n : ℕ). n ≤ 65024) (sym c.from.ensures)
-    (null_is_short c.args.l.now c.args.t.0 c.args.format c.null-len.result c.requires.layout c.requires.format c.null-len.ensures.length)
+    (null_is_short c.args.l.now.geo c.args.t.0 c.args.format c.null-len.result c.requires.layout.geometry c.requires.format c.null-len.ensures.length)

@@ -19,8 +19,8 @@ returns-then-is_null-clause-reply g c = λ told sure.
     let fit = subst (FitsFile file) (sym is) (fits l file t (c.requires.mounted told sure) c.requires.track) in
     let null : e.pos ≡ 0 = c.if-is_null.ensures.0 refl in
     let format : c.format_of.result ≡ e.len = c.format_of.ensures.value (fit.null null) in
-    subst (λ (bytes : List ℕ). IsReplyTo l t bytes c.null_reply.result (answered_bytes c.null_reply.result c.null_reply.new.out))
-    (ap (null_track l t) format ∙ sym (visible_null l file t e is null)) c.null_reply.ensures.reply
+    subst (λ (bytes : List ℕ). IsReplyTo l.geo t bytes c.null_reply.result (answered_bytes c.null_reply.result c.null_reply.new.out))
+    (ap (null_track l.geo t) format ∙ sym (visible_null l file t e is null)) c.null_reply.ensures.reply
 
 pub read-requires : goal.read-requires
 read-requires g c = λ told sure.
@@ -57,5 +57,5 @@ returns-clause-reply g c = λ told sure.
     let rest = drop c.from.result c.args.out.now in
     let front : answered_bytes given (c.stored_reply.new.bytes ++ rest) ≡ answered_bytes given c.stored_reply.new.bytes =
     take-append-le (answered_length given) c.stored_reply.new.bytes rest c.stored_reply.ensures.within in
-    subst (λ (bytes : List ℕ). IsReplyTo l t (visible l file t) given bytes) (sym front)
-    (subst (λ (bytes : List ℕ). IsReplyTo l t bytes given (answered_bytes given c.stored_reply.new.bytes)) seen c.stored_reply.ensures.reply)
+    subst (λ (bytes : List ℕ). IsReplyTo l.geo t (visible l file t) given bytes) (sym front)
+    (subst (λ (bytes : List ℕ). IsReplyTo l.geo t bytes given (answered_bytes given c.stored_reply.new.bytes)) seen c.stored_reply.ensures.reply)
