@@ -1,5 +1,5 @@
 -- What a run prints beside the replies to its script.
-use Rattle.std.specs.Prelude.{ℕ, List, ◌++◌, codes, decimal}
+use Rattle.std.specs.Prelude.{ℕ, List, [], ◌∷◌, ◌++◌, codes}
 use Rattle.cckd_base.specs.declared.entry.L2Entry.{L2Entry}
 use Rattle.cckd_base.specs.declared.space.Extent.{Extent}
 use Rattle.cckd_base.specs.declared.space.Owner.{Owner}
@@ -12,6 +12,7 @@ use Rattle.cckd_base.specs.declared.fault.CountField.{CountField}
 use Rattle.cckd_base.specs.declared.fault.CountField.TheVariants as counted
 use Rattle.cckd_base.specs.declared.fault.HeaderFault.{HeaderFault}
 use Rattle.cckd_base.specs.declared.fault.HeaderFault.TheVariants.{NotCckd, BadGeometry, BadCounts, BadNullFormat}
+use Rattle.cckd_script.specs.Phrase.{words, number, phrase}
 use Rattle.cckd_top.specs.declared.halt.Halt.{Halt}
 use Rattle.cckd_top.specs.declared.halt.Halt.TheVariants as halt
 
@@ -29,44 +30,42 @@ count_field counted.LevelOne = codes "level-one"
 count_field counted.LevelTwo = codes "level-two"
 count_field counted.Length = codes "length"
 
--- what is wrong with the headers of a file
+-- what is wrong with the headers of a file, with a blank before it
 abbrev pub header_fault_text : HeaderFault → List ℕ
-header_fault_text (NotCckd id) = codes "not a CCKD image"
-header_fault_text (BadGeometry field value) = codes "bad geometry " ++ geometry_field field ++ codes " " ++ decimal value
-header_fault_text (BadCounts field value) = codes "bad count " ++ count_field field ++ codes " " ++ decimal value
-header_fault_text (BadNullFormat value) = codes "bad null format " ++ decimal value
+header_fault_text (NotCckd id) = phrase (codes " not a CCKD image") []
+header_fault_text (BadGeometry field value) = phrase (codes " bad geometry") (words (geometry_field field) ∷ number value ∷ [])
+header_fault_text (BadCounts field value) = phrase (codes " bad count") (words (count_field field) ∷ number value ∷ [])
+header_fault_text (BadNullFormat value) = phrase (codes " bad null format") (number value ∷ [])
 
--- whom a space belongs to
+-- whom a space belongs to, with a blank before it
 abbrev pub owner_text : Owner → List ℕ
-owner_text Nobody = codes "nobody"
-owner_text Header = codes "header"
-owner_text (Table group) = codes "table " ++ decimal group
-owner_text (Track t) = codes "track " ++ decimal t
+owner_text Nobody = phrase (codes " nobody") []
+owner_text Header = phrase (codes " header") []
+owner_text (Table group) = phrase (codes " table") (number group ∷ [])
+owner_text (Track t) = phrase (codes " track") (number t ∷ [])
 
 -- a space, with its length
 abbrev pub space_text : Extent → List ℕ
-space_text e = owner_text e.owner ++ codes " at " ++ decimal e.pos ++ codes " for " ++ decimal e.size
+space_text e = owner_text e.owner ++ phrase (codes " at") (number e.pos ∷ words (codes "for") ∷ number e.size ∷ [])
 
--- the fields of an entry
-abbrev pub entry_fields : L2Entry → List ℕ
-entry_fields e = codes " at " ++ decimal e.pos ++ codes " length " ++ decimal e.len ++ codes " size " ++ decimal e.size
-
--- what is wrong with the tables of a file
+-- what is wrong with the tables of a file, with a blank before it
 abbrev pub misfit_text : Misfit → List ℕ
-misfit_text (BadTable group pos) = codes "bad table group " ++ decimal group ++ codes " at " ++ decimal pos
-misfit_text (BadEntry t e) = codes "bad entry track " ++ decimal t ++ entry_fields e
-misfit_text (Overlap first second) = codes "overlap " ++ space_text first ++ codes " and " ++ space_text second
-misfit_text (ParentInBase owner) = codes "parent in base " ++ owner_text owner
+misfit_text (BadTable group pos) = phrase (codes " bad table group") (number group ∷ words (codes "at") ∷ number pos ∷ [])
+misfit_text (BadEntry t e) =
+    phrase (codes " bad entry track")
+    (number t ∷ words (codes "at") ∷ number e.pos ∷ words (codes "length") ∷ number e.len ∷ words (codes "size") ∷ number e.size ∷ [])
+misfit_text (Overlap first second) = codes " overlap" ++ space_text first ++ codes " and" ++ space_text second
+misfit_text (ParentInBase owner) = codes " parent in base" ++ owner_text owner
 
 -- why a run ends before it looks at its script
 abbrev pub halt_text : Halt → List ℕ
-halt_text (halt.BadWords n) = codes "bad words at " ++ decimal n
-halt_text halt.ReadFault = codes "fault: read"
-halt_text halt.SyncFault = codes "fault: sync"
-halt_text halt.Memory = codes "no memory"
-halt_text (halt.BadHeader fault) = codes "refused: slot 0 " ++ header_fault_text fault
-halt_text (halt.HasMisfit misfit) = codes "refused: slot 0 " ++ misfit_text misfit
-halt_text halt.NotYet = codes "refused: not built yet"
+halt_text (halt.BadWords n) = phrase (codes "bad words at") (number n ∷ [])
+halt_text halt.ReadFault = phrase (codes "fault: read") []
+halt_text halt.SyncFault = phrase (codes "fault: sync") []
+halt_text halt.Memory = phrase (codes "no memory") []
+halt_text (halt.BadHeader fault) = codes "refused: slot 0" ++ header_fault_text fault
+halt_text (halt.HasMisfit misfit) = codes "refused: slot 0" ++ misfit_text misfit
+halt_text halt.NotYet = phrase (codes "refused: not built yet") []
 
 -- and the status that goes with it
 abbrev pub halt_status : Halt → ℕ

@@ -8,7 +8,7 @@ ghost use Rattle.cckd_top.specs.Names.{slot_name};
 ghost use Rattle.cckd_top.specs.Words.{is_file_word};
 ghost use Rattle.cckd_top.specs.World.{OnlyMakes, AreNamed};
 
-use cckd_script::put_bytes;
+use cckd_base::put_bytes;
 use cckd_shelf::{Failed, Slot, Stage};
 use std::str;
 

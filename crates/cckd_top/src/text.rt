@@ -1,238 +1,182 @@
 //! What a run prints beside the replies to its script, put into a buffer.
 
 ghost use Rattle.std.specs.Prelude.{◌≡◌, ◌+◌, ◌≤◌, length};
-ghost use Rattle.cckd_script.specs.Put.{IsPut};
+ghost use Rattle.cckd_base.specs.Put.{IsPut};
 ghost use Rattle.cckd_script.specs.Text.{line as ended};
-ghost use Rattle.cckd_top.specs.Text.{geometry_field, count_field, header_fault_text, owner_text, space_text, entry_fields, misfit_text, halt_text};
+ghost use Rattle.cckd_top.specs.Text.{geometry_field, count_field, header_fault_text, owner_text, space_text, misfit_text, halt_text};
 
 use crate::halt::Halt;
-use cckd_base::{CountField, Extent, GeoField, HeaderFault, L2Entry, Misfit, Owner};
-use cckd_script::{put_bytes, put_number};
+use cckd_base::{CountField, Extent, GeoField, HeaderFault, L2Entry, Misfit, Owner, put_bytes};
+use cckd_script::{Part, put_phrase};
 
 /// A buffer of so many bytes holds each of these lines.
-pub const HALT_ROOM: usize = 400;
+pub const HALT_ROOM: usize = 500;
 
-fn put_geometry_field(line: &mut [u8], at: usize, field: GeoField) -> usize
-    requires { at + 10 ≤ length line.old }
-    ensures put { IsPut at result (geometry_field field) line.old line.new }
-    ensures short { result ≤ at + 10 }
+/// The name of a field of the geometry.
+fn geometry_field(field: GeoField) -> &'static [u8]
+    ensures name { result.now ≡ geometry_field field }
+    ensures short { length result.now ≤ 10 }
 {
     match field {
-        GeoField::Heads => put_bytes(line, at, b"heads"),
-        GeoField::Cylinders => put_bytes(line, at, b"cylinders"),
-        GeoField::Tracks => put_bytes(line, at, b"tracks"),
-        GeoField::TrackSize => put_bytes(line, at, b"track-size"),
-        GeoField::Sequence => put_bytes(line, at, b"sequence"),
+        GeoField::Heads => b"heads",
+        GeoField::Cylinders => b"cylinders",
+        GeoField::Tracks => b"tracks",
+        GeoField::TrackSize => b"track-size",
+        GeoField::Sequence => b"sequence",
     }
 }
 
-fn put_count_field(line: &mut [u8], at: usize, field: CountField) -> usize
-    requires { at + 10 ≤ length line.old }
-    ensures put { IsPut at result (count_field field) line.old line.new }
-    ensures short { result ≤ at + 10 }
+/// The name of a count.
+fn count_field(field: CountField) -> &'static [u8]
+    ensures name { result.now ≡ count_field field }
+    ensures short { length result.now ≤ 10 }
 {
     match field {
-        CountField::LevelOne => put_bytes(line, at, b"level-one"),
-        CountField::LevelTwo => put_bytes(line, at, b"level-two"),
-        CountField::Length => put_bytes(line, at, b"length"),
+        CountField::LevelOne => b"level-one",
+        CountField::LevelTwo => b"level-two",
+        CountField::Length => b"length",
     }
-}
-
-/// Puts a field of the geometry that is wrong.
-#[tactic(auto, using(cckd_script::proofs::PutLemmas::puts_join))]
-fn put_bad_geometry(line: &mut [u8], at: usize, field: GeoField, value: u64) -> usize
-    requires { at + 60 ≤ length line.old }
-    ensures put { IsPut at result (header_fault_text (HeaderFault.BadGeometry field value)) line.old line.new }
-    ensures short { result ≤ at + 60 }
-{
-    let end = put_bytes(line, at, b"bad geometry ");
-    let end = put_geometry_field(line, end, field);
-    let end = put_bytes(line, end, b" ");
-    put_number(line, end, value)
-}
-
-/// Puts a count that is wrong.
-#[tactic(auto, using(cckd_script::proofs::PutLemmas::puts_join))]
-fn put_bad_count(line: &mut [u8], at: usize, field: CountField, value: u64) -> usize
-    requires { at + 60 ≤ length line.old }
-    ensures put { IsPut at result (header_fault_text (HeaderFault.BadCounts field value)) line.old line.new }
-    ensures short { result ≤ at + 60 }
-{
-    let end = put_bytes(line, at, b"bad count ");
-    let end = put_count_field(line, end, field);
-    let end = put_bytes(line, end, b" ");
-    put_number(line, end, value)
-}
-
-/// Puts a null format that is wrong.
-#[tactic(auto, using(cckd_script::proofs::PutLemmas::puts_join))]
-fn put_bad_format(line: &mut [u8], at: usize, value: u8) -> usize
-    requires { at + 60 ≤ length line.old }
-    ensures put { IsPut at result (header_fault_text (HeaderFault.BadNullFormat value)) line.old line.new }
-    ensures short { result ≤ at + 60 }
-{
-    let end = put_bytes(line, at, b"bad null format ");
-    put_number(line, end, u64::from(value))
 }
 
 /// Puts what is wrong with the headers of a file.
-#[tactic(auto, using(cckd_script::proofs::PutLemmas::puts_join))]
 fn put_header_fault(line: &mut [u8], at: usize, fault: HeaderFault) -> usize
     requires { at + 60 ≤ length line.old }
     ensures put { IsPut at result (header_fault_text fault) line.old line.new }
     ensures short { result ≤ at + 60 }
 {
     match fault {
-        HeaderFault::NotCckd { .. } => put_bytes(line, at, b"not a CCKD image"),
-        HeaderFault::BadGeometry { field, value } => put_bad_geometry(line, at, field, value),
-        HeaderFault::BadCounts { field, value } => put_bad_count(line, at, field, value),
-        HeaderFault::BadNullFormat { value } => put_bad_format(line, at, value),
+        HeaderFault::NotCckd { .. } => put_phrase(line, at, b" not a CCKD image", &[]),
+        HeaderFault::BadGeometry { field, value } => {
+            let parts = [Part::Words(geometry_field(field)), Part::Number(value)];
+            put_phrase(line, at, b" bad geometry", &parts)
+        }
+        HeaderFault::BadCounts { field, value } => {
+            let parts = [Part::Words(count_field(field)), Part::Number(value)];
+            put_phrase(line, at, b" bad count", &parts)
+        }
+        HeaderFault::BadNullFormat { value } => {
+            let parts = [Part::Number(u64::from(value))];
+            put_phrase(line, at, b" bad null format", &parts)
+        }
     }
 }
 
 /// Puts whom a space belongs to.
-#[tactic(auto, using(cckd_script::proofs::PutLemmas::puts_join))]
 fn put_owner(line: &mut [u8], at: usize, owner: Owner) -> usize
     requires { at + 30 ≤ length line.old }
     ensures put { IsPut at result (owner_text owner) line.old line.new }
     ensures short { result ≤ at + 30 }
 {
     match owner {
-        Owner::Nobody => put_bytes(line, at, b"nobody"),
-        Owner::Header => put_bytes(line, at, b"header"),
+        Owner::Nobody => put_phrase(line, at, b" nobody", &[]),
+        Owner::Header => put_phrase(line, at, b" header", &[]),
         Owner::Table(group) => {
-            let end = put_bytes(line, at, b"table ");
-            put_number(line, end, u64::from(group))
+            put_phrase(line, at, b" table", &[Part::Number(u64::from(group))])
         }
         Owner::Track(track) => {
-            let end = put_bytes(line, at, b"track ");
-            put_number(line, end, u64::from(track))
+            put_phrase(line, at, b" track", &[Part::Number(u64::from(track))])
         }
     }
 }
 
 /// Puts a space, with its length.
-#[tactic(auto, using(cckd_script::proofs::PutLemmas::puts_join))]
+#[tactic(auto, using(cckd_base::proofs::PutLemmas::puts_join))]
 fn put_space(line: &mut [u8], at: usize, space: Extent) -> usize
     requires { at + 90 ≤ length line.old }
     ensures put { IsPut at result (space_text space) line.old line.new }
     ensures short { result ≤ at + 90 }
 {
     let end = put_owner(line, at, space.owner);
-    let end = put_bytes(line, end, b" at ");
-    let end = put_number(line, end, u64::from(space.pos));
-    let end = put_bytes(line, end, b" for ");
-    put_number(line, end, u64::from(space.size))
-}
-
-/// Puts the fields of an entry.
-#[tactic(auto, using(cckd_script::proofs::PutLemmas::puts_join))]
-fn put_entry(line: &mut [u8], at: usize, entry: L2Entry) -> usize
-    requires { at + 90 ≤ length line.old }
-    ensures put { IsPut at result (entry_fields entry) line.old line.new }
-    ensures short { result ≤ at + 90 }
-{
-    let end = put_bytes(line, at, b" at ");
-    let end = put_number(line, end, u64::from(entry.pos));
-    let end = put_bytes(line, end, b" length ");
-    let end = put_number(line, end, u64::from(entry.len));
-    let end = put_bytes(line, end, b" size ");
-    put_number(line, end, u64::from(entry.size))
-}
-
-/// Puts a word that names no table.
-#[tactic(auto, using(cckd_script::proofs::PutLemmas::puts_join))]
-fn put_bad_table(line: &mut [u8], at: usize, group: u32, pos: u32) -> usize
-    requires { at + 200 ≤ length line.old }
-    ensures put { IsPut at result (misfit_text (Misfit.BadTable group pos)) line.old line.new }
-    ensures short { result ≤ at + 200 }
-{
-    let end = put_bytes(line, at, b"bad table group ");
-    let end = put_number(line, end, u64::from(group));
-    let end = put_bytes(line, end, b" at ");
-    put_number(line, end, u64::from(pos))
+    let parts = [
+        Part::Number(u64::from(space.pos)),
+        Part::Words(b"for"),
+        Part::Number(u64::from(space.size)),
+    ];
+    put_phrase(line, end, b" at", &parts)
 }
 
 /// Puts an entry that is wrong.
-#[tactic(auto, using(cckd_script::proofs::PutLemmas::puts_join))]
 fn put_bad_entry(line: &mut [u8], at: usize, track: u32, entry: L2Entry) -> usize
     requires { at + 200 ≤ length line.old }
     ensures put { IsPut at result (misfit_text (Misfit.BadEntry track entry)) line.old line.new }
     ensures short { result ≤ at + 200 }
 {
-    let end = put_bytes(line, at, b"bad entry track ");
-    let end = put_number(line, end, u64::from(track));
-    put_entry(line, end, entry)
+    let parts = [
+        Part::Number(u64::from(track)),
+        Part::Words(b"at"),
+        Part::Number(u64::from(entry.pos)),
+        Part::Words(b"length"),
+        Part::Number(u64::from(entry.len)),
+        Part::Words(b"size"),
+        Part::Number(u64::from(entry.size)),
+    ];
+    put_phrase(line, at, b" bad entry track", &parts)
 }
 
 /// Puts two spaces that share a byte.
-#[tactic(auto, using(cckd_script::proofs::PutLemmas::puts_join))]
+#[tactic(auto, using(cckd_base::proofs::PutLemmas::puts_join))]
 fn put_overlap(line: &mut [u8], at: usize, first: Extent, second: Extent) -> usize
     requires { at + 200 ≤ length line.old }
     ensures put { IsPut at result (misfit_text (Misfit.Overlap first second)) line.old line.new }
     ensures short { result ≤ at + 200 }
 {
-    let end = put_bytes(line, at, b"overlap ");
+    let end = put_bytes(line, at, b" overlap");
     let end = put_space(line, end, first);
-    let end = put_bytes(line, end, b" and ");
+    let end = put_bytes(line, end, b" and");
     put_space(line, end, second)
 }
 
-/// Puts who looks below the base.
-#[tactic(auto, using(cckd_script::proofs::PutLemmas::puts_join))]
-fn put_parent(line: &mut [u8], at: usize, owner: Owner) -> usize
-    requires { at + 200 ≤ length line.old }
-    ensures put { IsPut at result (misfit_text (Misfit.ParentInBase owner)) line.old line.new }
-    ensures short { result ≤ at + 200 }
-{
-    let end = put_bytes(line, at, b"parent in base ");
-    put_owner(line, end, owner)
-}
-
 /// Puts what is wrong with the tables of a file.
-#[tactic(auto, using(cckd_script::proofs::PutLemmas::puts_join))]
+#[tactic(auto, using(cckd_base::proofs::PutLemmas::puts_join))]
 fn put_misfit(line: &mut [u8], at: usize, misfit: Misfit) -> usize
     requires { at + 200 ≤ length line.old }
     ensures put { IsPut at result (misfit_text misfit) line.old line.new }
     ensures short { result ≤ at + 200 }
 {
     match misfit {
-        Misfit::BadTable { group, pos } => put_bad_table(line, at, group, pos),
+        Misfit::BadTable { group, pos } => {
+            let parts = [
+                Part::Number(u64::from(group)),
+                Part::Words(b"at"),
+                Part::Number(u64::from(pos)),
+            ];
+            put_phrase(line, at, b" bad table group", &parts)
+        }
         Misfit::BadEntry { track, entry } => put_bad_entry(line, at, track, entry),
         Misfit::Overlap { first, second } => put_overlap(line, at, first, second),
-        Misfit::ParentInBase { owner } => put_parent(line, at, owner),
+        Misfit::ParentInBase { owner } => {
+            let end = put_bytes(line, at, b" parent in base");
+            put_owner(line, end, owner)
+        }
     }
 }
 
 /// Puts why a run ends before it looks at its script.
-#[tactic(auto, using(cckd_script::proofs::PutLemmas::puts_join))]
+#[tactic(auto, using(cckd_base::proofs::PutLemmas::puts_join))]
 fn put_cause(line: &mut [u8], halt: Halt) -> usize
     requires { 300 ≤ length line.old }
     ensures put { IsPut 0 result (halt_text halt) line.old line.new }
     ensures short { result ≤ 300 }
 {
     match halt {
-        Halt::BadWords(number) => {
-            let end = put_bytes(line, 0, b"bad words at ");
-            put_number(line, end, number)
-        }
-        Halt::ReadFault => put_bytes(line, 0, b"fault: read"),
-        Halt::SyncFault => put_bytes(line, 0, b"fault: sync"),
-        Halt::Memory => put_bytes(line, 0, b"no memory"),
+        Halt::BadWords(number) => put_phrase(line, 0, b"bad words at", &[Part::Number(number)]),
+        Halt::ReadFault => put_phrase(line, 0, b"fault: read", &[]),
+        Halt::SyncFault => put_phrase(line, 0, b"fault: sync", &[]),
+        Halt::Memory => put_phrase(line, 0, b"no memory", &[]),
         Halt::BadHeader(fault) => {
-            let end = put_bytes(line, 0, b"refused: slot 0 ");
+            let end = put_bytes(line, 0, b"refused: slot 0");
             put_header_fault(line, end, fault)
         }
         Halt::HasMisfit(misfit) => {
-            let end = put_bytes(line, 0, b"refused: slot 0 ");
+            let end = put_bytes(line, 0, b"refused: slot 0");
             put_misfit(line, end, misfit)
         }
-        Halt::NotYet => put_bytes(line, 0, b"refused: not built yet"),
+        Halt::NotYet => put_phrase(line, 0, b"refused: not built yet", &[]),
     }
 }
 
 /// Puts the line of it to the front of the buffer, and answers its length.
-#[tactic(auto, using(cckd_script::proofs::PutLemmas::puts_join))]
+#[tactic(auto, using(cckd_base::proofs::PutLemmas::puts_join))]
 pub fn put_halt(line: &mut [u8], halt: Halt) -> usize
     requires { HALT_ROOM ≤ length line.old }
     ensures put { IsPut 0 result (ended (halt_text halt)) line.old line.new }
