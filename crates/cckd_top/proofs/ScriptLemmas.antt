@@ -4,11 +4,9 @@ use Rattle.std.proofs.lemmas.Bool.{cases_lt, lt-ltb, le-ltb, cond-true, cond-fal
 use Rattle.std.proofs.lemmas.Grind.{flat_map-append}
 use Rattle.std.proofs.Math.Seq.{take-append-add, drop-append-add}
 use Rattle.cckd_base.specs.declared.call.Call.TheVariants.{Close}
-use Rattle.cckd_script.specs.declared.misread.Item.{Item}
-use Rattle.cckd_script.specs.declared.misread.Item.TheVariants.{Asked, Misread}
 use Rattle.cckd_script.specs.declared.misread.Misreading.TheVariants as misreading
 use Rattle.cckd_script.specs.Lines.{lines_of, ended_lines, StopsAtLine, HasNoFeed}
-use Rattle.cckd_script.specs.Items.{line_items, items_of_lines, cut_items, script_items}
+use Rattle.cckd_script.specs.Items.{Item, asked, unread, line_items, items_of_lines, cut_items, script_items}
 use Rattle.cckd_script.proofs.LineLemmas.{lines-append, ended-append, ended_all, stops_more, lines_more, lines_unfed, ended_unfed}
 use Rattle.cckd_lines.specs.Lines.{fed, last, IsLine, BreaksOff}
 
@@ -74,18 +72,18 @@ module _ (limit : ℕ) (script rest : List ℕ) (left : ℕ) (ended : Bool) (ite
       ]
 
   -- the whole script
-  pub reads_all : rest ≡ [] → items ++ Asked Close ∷ [] ≡ script_items limit script
+  pub reads_all : rest ≡ [] → items ++ asked Close [] ∷ [] ≡ script_items limit script
   reads_all none =
       let whole : script ≡ so_far.consumed = so_far.split ∙ ap (λ (s : List ℕ). so_far.consumed ++ s) none ∙ append-nil so_far.consumed in
       let short : length script ≤ limit = omega (arith, ap length whole, so_far.allowed) in
-      ap (λ (s : List Item). s ++ Asked Close ∷ []) (
+      ap (λ (s : List Item). s ++ asked Close [] ∷ []) (
       so_far.asked ∙ ap (λ (s : List ℕ). items_of_lines (lines_of s)) (sym whole)
       ∙ sym (cond-false (nat_lt limit (length script)) (cut_items limit script) _ (le-ltb limit (length script) short))
       )
 
   -- the script up to its limit
   pub reads_limit : (rest' : List ℕ) → HasNoFeed (take left rest) → left < length rest → rest' ≡ drop (left + 1) rest
-      → ((items ++ Misread misreading.ScriptTooLong ∷ []) ++ Asked Close ∷ [] ≡ script_items limit script) × (limit < length script)
+      → ((items ++ unread misreading.ScriptTooLong ∷ []) ++ asked Close [] ∷ [] ≡ script_items limit script) × (limit < length script)
       × (rest' ≡ drop (limit + 1) script)
   reads_limit rest' free more one =
       let stops = stops_here (omega (arith, more)) in
@@ -96,8 +94,8 @@ module _ (limit : ℕ) (script rest : List ℕ) (left : ℕ) (ended : Bool) (ite
       let lines : ended_lines (take limit script) ≡ lines_of so_far.consumed =
       ap ended_lines front ∙ ended_unfed so_far.consumed (take left rest) stops free in
       let items_are : items ≡ items_of_lines (ended_lines (take limit script)) = so_far.asked ∙ ap items_of_lines (sym lines) in (
-        ap (λ (s : List Item). s ++ Asked Close ∷ []) (
-            ap (λ (s : List Item). s ++ Misread misreading.ScriptTooLong ∷ []) items_are
+        ap (λ (s : List Item). s ++ asked Close [] ∷ []) (
+            ap (λ (s : List Item). s ++ unread misreading.ScriptTooLong ∷ []) items_are
             ∙ sym (cond-true (nat_lt limit (length script)) (cut_items limit script) _ (lt-ltb limit (length script) long))
             ),
         long,
@@ -121,19 +119,19 @@ module _ (limit : ℕ) (script rest : List ℕ) (left : ℕ) (ended : Bool) (ite
 
   front_short : length script ≤ limit → (more : List Item) × (items ++ more ≡ script_items limit script)
   front_short short =
-      let whole : script_items limit script ≡ items_of_lines (lines_of script) ++ Asked Close ∷ [] =
-      ap (λ (s : List Item). s ++ Asked Close ∷ []) (cond-false (nat_lt limit (length script)) (cut_items limit script) _ (le-ltb limit (length script) short)) in
+      let whole : script_items limit script ≡ items_of_lines (lines_of script) ++ asked Close [] ∷ [] =
+      ap (λ (s : List Item). s ++ asked Close [] ∷ []) (cond-false (nat_lt limit (length script)) (cut_items limit script) _ (le-ltb limit (length script) short)) in
       ⊎_elim
       (λ (stops : StopsAtLine so_far.consumed). (
-        items_of_lines (lines_of rest) ++ Asked Close ∷ [],
-        sym (append_assoc items (items_of_lines (lines_of rest)) (Asked Close ∷ []))
-            ∙ ap (λ (s : List Item). s ++ Asked Close ∷ []) (
+        items_of_lines (lines_of rest) ++ asked Close [] ∷ [],
+        sym (append_assoc items (items_of_lines (lines_of rest)) (asked Close [] ∷ []))
+            ∙ ap (λ (s : List Item). s ++ asked Close [] ∷ []) (
             ap (λ (s : List Item). s ++ items_of_lines (lines_of rest)) so_far.asked
             ∙ sym (flat_map-append line_items (lines_of so_far.consumed) (lines_of rest))
             ∙ ap items_of_lines (sym (ap lines_of so_far.split ∙ lines-append so_far.consumed rest stops))
             ) ∙ sym whole,
       ))
-      (λ (h : (rest ≡ []) × (ended ≡ true)). (Asked Close ∷ [], reads_all h.0))
+      (λ (h : (rest ≡ []) × (ended ≡ true)). (asked Close [] ∷ [], reads_all h.0))
       so_far.stops
 
   front_long : limit < length script → (more : List Item) × (items ++ more ≡ script_items limit script)
@@ -147,11 +145,11 @@ module _ (limit : ℕ) (script rest : List ℕ) (left : ℕ) (ended : Bool) (ite
       ap items_of_lines (ap ended_lines front ∙ ended-append so_far.consumed (take left rest) stops)
       ∙ flat_map-append line_items (ended_lines so_far.consumed) (ended_lines (take left rest))
       ∙ ap (λ (s : List Item). s ++ tail) (ap items_of_lines (ended_all so_far.consumed stops) ∙ sym so_far.asked) in (
-        tail ++ (Misread misreading.ScriptTooLong ∷ Asked Close ∷ []),
-        sym (append_assoc items tail (Misread misreading.ScriptTooLong ∷ Asked Close ∷ []))
-            ∙ ap (λ (s : List Item). s ++ (Misread misreading.ScriptTooLong ∷ Asked Close ∷ [])) (sym lines)
-            ∙ sym (append_assoc (items_of_lines (ended_lines (take limit script))) (Misread misreading.ScriptTooLong ∷ []) (Asked Close ∷ []))
-            ∙ ap (λ (s : List Item). s ++ Asked Close ∷ []) (sym (cond-true (nat_lt limit (length script)) (cut_items limit script) _ (lt-ltb limit (length script) long))),
+        tail ++ (unread misreading.ScriptTooLong ∷ asked Close [] ∷ []),
+        sym (append_assoc items tail (unread misreading.ScriptTooLong ∷ asked Close [] ∷ []))
+            ∙ ap (λ (s : List Item). s ++ (unread misreading.ScriptTooLong ∷ asked Close [] ∷ [])) (sym lines)
+            ∙ sym (append_assoc (items_of_lines (ended_lines (take limit script))) (unread misreading.ScriptTooLong ∷ []) (asked Close [] ∷ []))
+            ∙ ap (λ (s : List Item). s ++ asked Close [] ∷ []) (sym (cond-true (nat_lt limit (length script)) (cut_items limit script) _ (lt-ltb limit (length script) long))),
       )
 
   -- what was served is a front of the script's items

@@ -1,5 +1,6 @@
 -- Items that are served, one and one after the other.
-use Rattle.std.proofs.Common.{◌≡◌, ℕ, ◌+◌, ◌≤◌, List, [], ◌∷◌, ◌++◌, length, nat_lt, take, Result, Ok, Err, refl, sym, ◌∙◌, ap, subst, arith, append-nil}
+use Rattle.std.specs.Str.{bytes_eq}
+use Rattle.std.proofs.Common.{◌≡◌, ℕ, ◌+◌, ◌≤◌, ◌==◌, Bool, true, false, cond, Some, None, List, [], ◌∷◌, ◌++◌, length, nat_lt, take, Result, Ok, Err, refl, sym, ◌∙◌, ap, subst, arith, append-nil}
 use Rattle.std.proofs.lemmas.Bool.{cond-false, le-ltb}
 use Rattle.cckd_base.specs.declared.geometry.Layout.{Layout}
 use Rattle.cckd_shelf.specs.declared.fault.Failed.{Failed}
@@ -7,16 +8,26 @@ use Rattle.cckd_shelf.specs.declared.fault.Faults.{Faults}
 use Rattle.cckd_shelf.specs.Faults.{Rose, NoneFell}
 use Rattle.cckd_shelf.specs.Events.{output_of}
 use Rattle.cckd_shelf.specs.World.{World, file_of}
-use Rattle.cckd_script.specs.declared.misread.Item.{Item}
+use Rattle.cckd_base.specs.declared.geometry.Addr.{Addr}
+use Rattle.cckd_base.specs.declared.call.Call.TheVariants.{Read}
+use Rattle.cckd_base.specs.declared.reply.Reply.{Reply}
+use Rattle.cckd_base.specs.declared.reply.Reply.TheVariants as reply
+use Rattle.cckd_script.specs.declared.misread.Misreading.{Misreading}
+use Rattle.cckd_script.specs.declared.misread.Misreading.TheVariants as misreading
+use Rattle.cckd_script.specs.declared.parse.Line.{Line}
 use Rattle.cckd_script.specs.declared.parse.LineFault.{LineFault}
 use Rattle.cckd_script.specs.declared.parse.What.{What}
-use Rattle.cckd_script.specs.Items.{items_of, line_items}
-use Rattle.cckd_script.specs.Parse.{parsed}
-use Rattle.cckd_script.specs.Put.{IsPut}
+use Rattle.cckd_script.specs.Grammar.{Value, values_of}
+use Rattle.cckd_script.specs.Grammar as kind
+use Rattle.cckd_script.specs.Lines.{tokens}
+use Rattle.cckd_script.specs.Items.{Item, asked, item_of, items_of, line_items}
+use Rattle.cckd_script.specs.Parse.{Request, nothing, one, turns, read_asked, read_form, asked_by, asked_in, parsed_tokens, parsed, line_in}
+use Rattle.cckd_base.specs.Put.{IsPut}
 use Rattle.cckd_script.specs.Lines.{line_limit}
-use Rattle.cckd_script.specs.Text.{Entry, item_of, entry_text, script_text}
+use Rattle.cckd_script.specs.Text.{Entry, FitsCall, entry_text, script_text}
 use Rattle.cckd_top.specs.World.{KeepsFiles, PutsFront}
-use Rattle.cckd_top.specs.Serving.{IsLegal, HasServed, Serves, RoseBy, entry_faults, entry_status}
+use Rattle.cckd_top.specs.Reading.{IsReadReply}
+use Rattle.cckd_top.specs.Serving.{IsServed, IsAskedBy, IsLegal, HasServed, Serves, RoseBy, entry_faults, entry_status}
 use Rattle.cckd_top.proofs.FaultLemmas.{none_fell_same, none_fell_twice}
 use Rattle.cckd_top.proofs.WorldLemmas.{keeps_files_same}
 
@@ -98,7 +109,91 @@ none_served tells told l file w f items none = record {
   fell = none_fell_same f;
 }
 
--- the items of a line that isn't too long
-pub line_items_are : (line : List ℕ) (r : Result What LineFault) → length line ≤ line_limit → r ≡ parsed line → line_items line ≡ items_of r
-line_items_are line r short e =
-    cond-false (nat_lt line_limit (length line)) _ _ (le-ltb line_limit (length line) short) ∙ ap items_of (sym e)
+-- a read is served, and gives no bytes; nothing else is asked
+IsReadOnly : Result Request LineFault → Type 0
+IsReadOnly (Ok nothing) = Unit {0}
+IsReadOnly (Ok (one call given)) = IsServed call × (given ≡ [])
+IsReadOnly (Ok (turns count)) = ⊥
+IsReadOnly (Err fault) = Unit {0}
+
+read_values : (values : List Value) → IsReadOnly (Ok (read_asked values))
+unfolding IsReadOnly
+read_values [] = tt
+read_values (kind.nothing ∷ vs) = tt
+read_values (kind.given bs ∷ vs) = tt
+read_values (kind.amount c ∷ []) = tt
+read_values (kind.amount c ∷ kind.nothing ∷ vs) = tt
+read_values (kind.amount c ∷ kind.given bs ∷ vs) = tt
+read_values (kind.amount c ∷ kind.amount h ∷ []) = (tt, refl)
+read_values (kind.amount c ∷ kind.amount h ∷ v ∷ vs) = tt
+
+read_asked_by : (r : Result (List Value) ℕ) → IsReadOnly (asked_by read_form r)
+unfolding IsReadOnly
+read_asked_by (Ok values) = read_values values
+read_asked_by (Err column) = tt
+
+read_named : (b : Bool) (column : ℕ) (rest : List (List ℕ)) → IsReadOnly (asked_in (cond b (Some read_form) None) column rest)
+unfolding IsReadOnly
+read_named true column rest = read_asked_by (values_of column read_form.kinds rest)
+read_named false column rest = tt
+
+read_tokens : (parts : List (List ℕ)) → IsReadOnly (parsed_tokens parts)
+unfolding IsReadOnly
+read_tokens [] = tt
+read_tokens (front ∷ rest) = read_named (bytes_eq front read_form.front) (length front + 2) rest
+
+read_line_by : (b : Bool) (r : Result Request LineFault) → IsReadOnly r → IsReadOnly (cond b (Ok nothing) r)
+unfolding IsReadOnly
+read_line_by true r h = tt
+read_line_by false r h = h
+
+read_only : (line : List ℕ) → IsReadOnly (parsed line)
+unfolding IsReadOnly
+read_only [] = tt
+read_only (b ∷ rest) = read_line_by (b == 35) (parsed_tokens (tokens (b ∷ rest))) (read_tokens (tokens (b ∷ rest)))
+
+-- what a parsed line asks, as the code has it
+what_asked : Result Line LineFault → Result What Misreading
+what_asked (Ok line) = Ok line.what
+what_asked (Err fault) = Err (misreading.LineFault fault.column)
+
+asked_of : (line : List ℕ) (r : Result Request LineFault) → IsReadOnly r → line_items line ≡ items_of r → IsAskedBy line (what_asked (line_in r))
+unfolding IsReadOnly what_asked
+asked_of line (Ok nothing) only is = is
+asked_of line (Ok (one call given)) only is = (only.0, is ∙ ap (λ (bytes : List ℕ). asked call bytes ∷ []) only.1)
+asked_of line (Ok (turns count)) only is = absurd only
+asked_of line (Err fault) only is = is
+
+line_items_are : (line : List ℕ) → length line ≤ line_limit → line_items line ≡ items_of (parsed line)
+line_items_are line short = cond-false (nat_lt line_limit (length line)) _ _ (le-ltb line_limit (length line) short)
+
+-- a line that was parsed
+pub line_asked : (line : List ℕ) (r : Result Line LineFault) → length line ≤ line_limit → r ≡ line_in (parsed line) → IsAskedBy line (what_asked r)
+line_asked line r short e =
+    subst (λ (x : Result Line LineFault). IsAskedBy line (what_asked x)) (sym e) (asked_of line (parsed line) (read_only line) (line_items_are line short))
+
+pub asked_ok : (line : List ℕ) (r : Result Line LineFault) (l : Line) → r ≡ Ok l → IsAskedBy line (what_asked r) → IsAskedBy line (Ok l.what)
+unfolding what_asked
+asked_ok line r l e h = subst (λ (x : Result Line LineFault). IsAskedBy line (what_asked x)) e h
+
+pub asked_err : (line : List ℕ) (r : Result Line LineFault) (fault : LineFault) → r ≡ Err fault → IsAskedBy line (what_asked r)
+    → IsAskedBy line (Err (misreading.LineFault fault.column))
+unfolding what_asked
+asked_err line r fault e h = subst (λ (x : Result Line LineFault). IsAskedBy line (what_asked x)) e h
+
+-- a reply to a read may be printed
+pub fits_read : (at : Addr) (said : Reply) → IsReadReply said → FitsCall (Read at) 0 said
+fits_read at (reply.Track len) h = (refl, h)
+fits_read at (reply.Refused why) h = h
+fits_read at (reply.Written len) h = absurd h
+fits_read at (reply.Record key_len body_len) h = absurd h
+fits_read at (reply.Replaced len) h = absurd h
+fits_read at reply.Hardened h = absurd h
+fits_read at (reply.Turned turn) h = absurd h
+fits_read at (reply.Added slot) h = absurd h
+fits_read at (reply.Merged slot) h = absurd h
+fits_read at (reply.Dropped slot) h = absurd h
+fits_read at reply.Compressed h = absurd h
+fits_read at (reply.Shown layers counts) h = absurd h
+fits_read at (reply.Checked level bad) h = absurd h
+fits_read at reply.Closed h = absurd h

@@ -1,5 +1,5 @@
 -- What a read of the one file of a disk is answered.
-use Rattle.std.specs.Prelude.{◌≡◌, ◌≤◌, ⊤, ℕ, IsSome, List, [], Option, Some, None, unwrap_or}
+use Rattle.std.specs.Prelude.{◌≡◌, ◌≤◌, ℕ, IsSome, List, [], Option, Some, None, unwrap_or}
 use Rattle.cckd_base.specs.declared.geometry.Addr.{Addr}
 use Rattle.cckd_base.specs.declared.geometry.Track.{Track}
 use Rattle.cckd_base.specs.declared.geometry.Geometry.{Geometry}
@@ -12,6 +12,7 @@ use Rattle.cckd_base.specs.Geometry.{track_at}
 use Rattle.cckd_base.specs.Entry.{stored_bytes}
 use Rattle.cckd_base.specs.Track.{null_track, track_fault, track_value}
 use Rattle.cckd_base.specs.Answer.{read_reply}
+use Rattle.cckd_script.specs.Text.{RefusalFitsCall}
 
 -- the bytes that the one file shows of a track
 abbrev pub visible : Layout → List ℕ → ℕ → List ℕ
@@ -35,24 +36,22 @@ pub data AnswersRead (l : Layout) (file : List ℕ) (at : Addr) (given : Reply) 
 
 -- how many faults of reading a refusal tells
 abbrev pub refusal_faults : Refusal → ℕ
-refusal_faults refusal.NoSuchTrack = 0
-refusal_faults (refusal.Track fault) = 0
 refusal_faults refusal.ReadFault = 1
+refusal_faults _ = 0
 
 -- how many faults of reading a reply tells
 abbrev pub reply_faults : Reply → ℕ
-reply_faults (reply.Track len) = 0
-reply_faults reply.Closed = 0
 reply_faults (reply.Refused why) = refusal_faults why
+reply_faults _ = 0
 
 -- a track that a line has room for, or a refusal other than a fault of reading
 abbrev pub IsTrackReply : Reply → Type 0
 IsTrackReply (reply.Track len) = len ≤ 65024
-IsTrackReply reply.Closed = ⊥
-IsTrackReply (reply.Refused why) = reply_faults (reply.Refused why) ≡ 0
+IsTrackReply (reply.Refused why) = (refusal_faults why ≡ 0) × RefusalFitsCall why
+IsTrackReply _ = ⊥
 
 -- the same, or a fault of reading
 abbrev pub IsReadReply : Reply → Type 0
 IsReadReply (reply.Track len) = len ≤ 65024
-IsReadReply reply.Closed = ⊥
-IsReadReply (reply.Refused why) = ⊤
+IsReadReply (reply.Refused why) = RefusalFitsCall why
+IsReadReply _ = ⊥

@@ -14,12 +14,13 @@ use Rattle.cckd_shelf.specs.Faults.{Rose, NoneFell}
 use Rattle.cckd_shelf.specs.Events.{output_of}
 use Rattle.cckd_shelf.specs.Seen.{Seen, Tells}
 use Rattle.cckd_shelf.specs.World.{World, IsSure, file_of}
-use Rattle.cckd_script.specs.declared.misread.Item.{Item}
-use Rattle.cckd_script.specs.declared.misread.Item.TheVariants.{Misread}
+use Rattle.cckd_script.specs.declared.misread.Misreading.{Misreading}
 use Rattle.cckd_script.specs.declared.misread.Misreading.TheVariants as misreading
+use Rattle.cckd_script.specs.declared.parse.What.{What}
+use Rattle.cckd_script.specs.declared.parse.What.TheVariants as what
 use Rattle.cckd_script.specs.Lines.{ended_lines}
-use Rattle.cckd_script.specs.Items.{line_items, items_of_lines, script_items}
-use Rattle.cckd_script.specs.Text.{Entry, answered, misread, item_of, script_text}
+use Rattle.cckd_script.specs.Items.{Item, asked, unread, item_of, line_items, items_of_lines, script_items}
+use Rattle.cckd_script.specs.Text.{Entry, answered, misread, script_text}
 use Rattle.cckd_lines.specs.declared.lines.Next.{Next}
 use Rattle.cckd_lines.specs.declared.lines.Next.TheVariants as next
 use Rattle.cckd_top.specs.declared.serving.Stop.{Stop}
@@ -27,19 +28,33 @@ use Rattle.cckd_top.specs.declared.serving.Stop.TheVariants as stop
 use Rattle.cckd_top.specs.Reading.{AnswersRead, reply_faults}
 use Rattle.cckd_top.specs.World.{KeepsFiles, PutsFront}
 
--- what may be said to a call
+-- what may be said to a call; the others aren't served
 abbrev pub MayAnswer : Layout → List ℕ → Call → Reply → List ℕ → Type 0
-MayAnswer l file (Read at) given bytes = AnswersRead l file at given bytes
-MayAnswer l file Close given bytes = given ≡ reply.Closed
+MayAnswer l file (Read at) said bytes = AnswersRead l file at said bytes
+MayAnswer l file Close said bytes = said ≡ reply.Closed
+MayAnswer l file _ said bytes = ⊥
 
 -- each reply is the layered disk's over this file, or a fault of reading
 abbrev pub IsLegal : Layout → List ℕ → Entry → Type 0
-IsLegal l file (answered call given bytes) = MayAnswer l file call given bytes
+IsLegal l file (answered call given said bytes) = MayAnswer l file call said bytes
 IsLegal l file (misread why) = ⊤
+
+-- a call that is served
+abbrev pub IsServed : Call → Type 0
+IsServed (Read at) = ⊤
+IsServed Close = ⊤
+IsServed _ = ⊥
+
+-- What a line that isn't too long asks, by its items: nothing, a call that is served and gives no bytes, or a refusal.
+abbrev pub IsAskedBy : List ℕ → Result What Misreading → Type 0
+IsAskedBy line (Ok what.Nothing) = line_items line ≡ []
+IsAskedBy line (Ok (what.One call count)) = IsServed call × (line_items line ≡ asked call [] ∷ [])
+IsAskedBy line (Ok (what.Turns count)) = ⊥
+IsAskedBy line (Err why) = line_items line ≡ unread why ∷ []
 
 -- how many faults of reading were told
 abbrev pub entry_faults : Entry → ℕ
-entry_faults (answered call given bytes) = reply_faults given
+entry_faults (answered call given said bytes) = reply_faults said
 entry_faults (misread why) = 0
 
 -- the same of many entries
@@ -53,19 +68,21 @@ RoseBy n old new = min (old + n) (2 ^ 64 - 1) ≤ new
 
 -- the status that a refusal asks for
 abbrev pub refusal_status : Refusal → ℕ
-refusal_status refusal.NoSuchTrack = 1
-refusal_status (refusal.Track fault) = 1
 refusal_status refusal.ReadFault = 7
+refusal_status refusal.WriteFault = 7
+refusal_status refusal.SyncFault = 7
+refusal_status (refusal.Broken at) = 7
+refusal_status refusal.Memory = 8
+refusal_status _ = 1
 
 -- the status that a reply asks for
 abbrev pub reply_status : Reply → ℕ
-reply_status (reply.Track len) = 0
-reply_status reply.Closed = 0
 reply_status (reply.Refused why) = refusal_status why
+reply_status _ = 0
 
 -- the status that an entry asks for
 abbrev pub entry_status : Entry → ℕ
-entry_status (answered call given bytes) = reply_status given
+entry_status (answered call given said bytes) = reply_status said
 entry_status (misread why) = 1
 
 -- the greatest of them
@@ -115,8 +132,8 @@ pub record OfTheScript (limit : ℕ) (script left : List ℕ) (entries : List En
 -- the items of what comes next in a script
 abbrev pub items_of_next : List ℕ → Next → List Item
 items_of_next room (next.Line start end) = line_items (take (end - start) (drop start room))
-items_of_next room next.LineTooLong = Misread misreading.LineTooLong ∷ []
-items_of_next room next.ScriptTooLong = Misread misreading.ScriptTooLong ∷ []
+items_of_next room next.LineTooLong = unread misreading.LineTooLong ∷ []
+items_of_next room next.ScriptTooLong = unread misreading.ScriptTooLong ∷ []
 items_of_next room next.End = []
 
 -- whether nothing of a script is served behind this

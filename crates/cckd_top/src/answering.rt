@@ -4,10 +4,9 @@ ghost use Rattle.std.specs.Prelude.{◌≡◌, ◌≤◌, [], ◌∷◌, length,
 ghost use Rattle.cckd_shelf.specs.Seen.{seen, Tells};
 ghost use Rattle.cckd_shelf.specs.World.{IsSure, file_of};
 ghost use Rattle.cckd_base.specs.Geometry.{IsLayout};
-ghost use Rattle.cckd_script.specs.Items.{line_items};
-ghost use Rattle.cckd_script.specs.declared.misread.Item.TheVariants as items;
+ghost use Rattle.cckd_script.specs.Items.{asked, unread, line_items};
 ghost use Rattle.cckd_top.specs.Opening.{IsBase};
-ghost use Rattle.cckd_top.specs.Serving.{ServesItems, reply_status};
+ghost use Rattle.cckd_top.specs.Serving.{ServesItems, IsServed, IsAskedBy, refusal_status, reply_status};
 
 use crate::reading::read_at;
 use crate::sink::put_all;
@@ -17,14 +16,35 @@ use cckd_script::{
 };
 use cckd_shelf::{Failed, Slot, Stage};
 
+/// The status of a reply that refuses a call.
+const REFUSED: u8 = 1;
+
+/// The status of a reply that tells a fault.
+const FAULT: u8 = 7;
+
+/// The status of a reply for want of memory.
+const NO_MEMORY: u8 = 8;
+
+/// The status that a refusal asks for.
+fn refused_status(why: Refusal) -> u8
+    ensures { result ≡ refusal_status why }
+{
+    match why {
+        Refusal::ReadFault | Refusal::WriteFault | Refusal::SyncFault | Refusal::Broken { .. } => {
+            FAULT
+        }
+        Refusal::Memory => NO_MEMORY,
+        _ => REFUSED,
+    }
+}
+
 /// The status that a reply asks for.
 fn status_of(reply: Reply) -> u8
     ensures { result ≡ reply_status reply }
 {
     match reply {
-        Reply::Track { .. } | Reply::Closed => 0,
-        Reply::Refused(Refusal::NoSuchTrack | Refusal::Track(_)) => 1,
-        Reply::Refused(Refusal::ReadFault) => 7,
+        Reply::Refused(why) => refused_status(why),
+        _ => 0,
     }
 }
 
@@ -42,10 +62,10 @@ fn answer_read<T: Stage>(
     requires mounted { Tells (seen T.Shows stage.old) → IsSure (seen T.Shows stage.old).world → IsBase l.now (file_of (seen T.Shows stage.old).world 0) }
     requires track { 65536 ≤ length track.old }
     requires output { LINE_ROOM ≤ length output.old }
-    ensures { ServesItems l.now (seen T.Shows stage.old) (seen T.Shows stage.new) (items.Asked (Call.Read at) ∷ []) result }
+    ensures { ServesItems l.now (seen T.Shows stage.old) (seen T.Shows stage.new) (asked (Call.Read at) [] ∷ []) result }
 {
     let reply = read_at(stage, base, l, at, track);
-    let end = print_reply(Call::Read { at }, &reply, track, output);
+    let end = print_reply(None, Call::Read { at }, &reply, 0, track, output);
     let Ok(()) = put_all(stage, &output[..end as usize]) else {
         return Err(Failed);
     };
@@ -55,9 +75,9 @@ fn answer_read<T: Stage>(
 /// Prints the reply to the call that ends a run. The answer is its status.
 pub fn close<T: Stage>(stage: &mut T, l: &Layout, output: &mut [u8]) -> Result<u8, Failed>
     requires output { LINE_ROOM ≤ length output.old }
-    ensures { ServesItems l.now (seen T.Shows stage.old) (seen T.Shows stage.new) (items.Asked Call.Close ∷ []) result }
+    ensures { ServesItems l.now (seen T.Shows stage.old) (seen T.Shows stage.new) (asked Call.Close [] ∷ []) result }
 {
-    let end = print_reply(Call::Close, &Reply::Closed, &[], output);
+    let end = print_reply(None, Call::Close, &Reply::Closed, 0, &[], output);
     let Ok(()) = put_all(stage, &output[..end as usize]) else {
         return Err(Failed);
     };
@@ -72,7 +92,7 @@ pub fn refuse<T: Stage>(
     output: &mut [u8],
 ) -> Result<u8, Failed>
     requires output { LINE_ROOM ≤ length output.old }
-    ensures { ServesItems l.now (seen T.Shows stage.old) (seen T.Shows stage.new) (items.Misread why ∷ []) result }
+    ensures { ServesItems l.now (seen T.Shows stage.old) (seen T.Shows stage.new) (unread why ∷ []) result }
 {
     let end = print_misreading(why, output);
     let Ok(()) = put_all(stage, &output[..end as usize]) else {
@@ -81,7 +101,7 @@ pub fn refuse<T: Stage>(
     Ok(1)
 }
 
-/// Answers a call, and prints its line. The answer is the status that its reply asks for.
+/// Answers a call that is served, and prints its line. The answer is the status that its reply asks for.
 fn answer<T: Stage>(
     stage: &mut T,
     base: Slot,
@@ -93,13 +113,29 @@ fn answer<T: Stage>(
     requires base { base ≡ 0 }
     requires layout { IsLayout l.now }
     requires mounted { Tells (seen T.Shows stage.old) → IsSure (seen T.Shows stage.old).world → IsBase l.now (file_of (seen T.Shows stage.old).world 0) }
+    requires served { IsServed call }
     requires track { 65536 ≤ length track.old }
     requires output { LINE_ROOM ≤ length output.old }
-    ensures { ServesItems l.now (seen T.Shows stage.old) (seen T.Shows stage.new) (items.Asked call ∷ []) result }
+    ensures { ServesItems l.now (seen T.Shows stage.old) (seen T.Shows stage.new) (asked call [] ∷ []) result }
 {
     match call {
         Call::Read { at } => answer_read(stage, base, l, at, track, output),
         Call::Close => close(stage, l, output),
+        _ => unreachable!(),
+    }
+}
+
+/// What a line asks, or why it is refused.
+fn request_of(line: &[u8], track: &mut [u8]) -> Result<What, Misreading>
+    requires line { length line.now ≤ LINE_LIMIT }
+    requires track { 65536 ≤ length track.old }
+    ensures { IsAskedBy line.now result }
+{
+    match parse_line(line, false, track) {
+        Ok(line) => Ok(line.what),
+        Err(fault) => Err(Misreading::LineFault {
+            column: fault.column,
+        }),
     }
 }
 
@@ -120,14 +156,10 @@ pub fn answer_line<T: Stage>(
     requires output { LINE_ROOM ≤ length output.old }
     ensures { ServesItems l.now (seen T.Shows stage.old) (seen T.Shows stage.new) (line_items line.now) result }
 {
-    match parse_line(line) {
+    match request_of(line, track) {
         Ok(What::Nothing) => Ok(0),
-        Ok(What::One { call }) => answer(stage, base, l, call, track, output),
-        Err(fault) => {
-            let why = Misreading::LineFault {
-                column: fault.column,
-            };
-            refuse(stage, l, why, output)
-        }
+        Ok(What::One { call, .. }) => answer(stage, base, l, call, track, output),
+        Ok(What::Turns { .. }) => unreachable!(),
+        Err(why) => refuse(stage, l, why, output),
     }
 }

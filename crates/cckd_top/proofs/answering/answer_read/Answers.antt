@@ -1,7 +1,8 @@
 use Rattle.std.specs.Prelude.{T}
+use Rattle.std.proofs.Common.{[]}
 use Rattle.cckd_base.specs.declared.call.Call.TheVariants.{Read}
 use Rattle.cckd_script.specs.Text.{answered, answered_bytes}
-use Rattle.cckd_top.proofs.ServingLemmas.{one_served, one_cut, line_is}
+use Rattle.cckd_top.proofs.ServingLemmas.{one_served, one_cut, line_is, fits_read}
 use Rattle.cckd_shelf.specs.declared.fault.Kind.TheVariants.{Puts}
 use Rattle.cckd_top.proofs.FaultLemmas.{call_fell, raises_rose}
 use Rattle.cckd_top.proofs.answering.answer_read.Goals as goal
@@ -10,7 +11,7 @@ pub returns : goal.returns
 returns g c =
     let reply = c.read_at-reply.result in
     one_served (T g.T.Shows.tells) _ c.args.l.now _ (g.T.Shows.world c.args.stage.now) (g.T.Shows.world c.read_at-reply.new.stage) (g.T.Shows.world c.put_all.new.stage)
-    _ (g.T.Shows.faults c.read_at-reply.new.stage) _ (answered (Read c.args.at) reply (answered_bytes reply c.read_at-reply.new.out)) _
+    _ (g.T.Shows.faults c.read_at-reply.new.stage) _ (answered (Read c.args.at) [] reply (answered_bytes reply c.read_at-reply.new.out)) _
     (λ told. c.read_at-reply.ensures.answers told.0 told.1) c.read_at-reply.ensures.counted c.read_at-reply.ensures.kept
     c.read_at-reply.ensures.fell
     (line_is c.print_reply-end.result _ c.args.output.now c.print_reply-end.new.line c.print_reply-end.ensures.printed)
@@ -21,9 +22,12 @@ pub returns-in_default : goal.returns-in_default
 returns-in_default g c =
     let reply = c.read_at-reply.result in
     one_cut (T g.T.Shows.tells) _ c.args.l.now _ (g.T.Shows.world c.args.stage.now) (g.T.Shows.world c.read_at-reply.new.stage) (g.T.Shows.world c.put_all.new.stage)
-    _ (g.T.Shows.faults c.read_at-reply.new.stage) _ (answered (Read c.args.at) reply (answered_bytes reply c.read_at-reply.new.out)) _
+    _ (g.T.Shows.faults c.read_at-reply.new.stage) _ (answered (Read c.args.at) [] reply (answered_bytes reply c.read_at-reply.new.out)) _
     (λ told. c.read_at-reply.ensures.answers told.0 told.1) c.read_at-reply.ensures.counted c.read_at-reply.ensures.kept
     c.read_at-reply.ensures.fell
     (line_is c.print_reply-end.result _ c.args.output.now c.print_reply-end.new.line c.print_reply-end.ensures.printed)
     c.put_all.ensures.files c.put_all.ensures.file c.put_all.ensures.script (call_fell Puts c.put_all.result _ _ c.put_all.ensures.fails) (record {})
     c.in_default.ensures.front (raises_rose Puts _ _ c.in_default.ensures.fails.rose)
+
+pub print_reply-end-requires-clause-fits : goal.print_reply-end-requires-clause-fits
+print_reply-end-requires-clause-fits g c = fits_read c.args.at c.read_at-reply.result c.read_at-reply.ensures.short

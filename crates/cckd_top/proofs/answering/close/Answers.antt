@@ -13,7 +13,7 @@ returns g c =
     let w = g.T.Shows.world c.args.stage.now in
     let f = g.T.Shows.faults c.args.stage.now in
     one_served (T g.T.Shows.tells) _ c.args.l.now _ w w (g.T.Shows.world c.put_all.new.stage)
-    _ f _ (answered Close Closed []) _
+    _ f _ (answered Close [] Closed []) _
     (λ told. refl) (rose_by_none f.reads) (λ told. refl) (none_fell_same f)
     (line_is c.print_reply-end.result _ c.args.output.now c.print_reply-end.new.line c.print_reply-end.ensures.printed)
     c.put_all.ensures.files c.put_all.ensures.file c.put_all.ensures.script (call_fell Puts c.put_all.result _ _ c.put_all.ensures.fails) 0 refl
@@ -24,7 +24,7 @@ returns-in_default g c =
     let w = g.T.Shows.world c.args.stage.now in
     let f = g.T.Shows.faults c.args.stage.now in
     one_cut (T g.T.Shows.tells) _ c.args.l.now _ w w (g.T.Shows.world c.put_all.new.stage)
-    _ f _ (answered Close Closed []) _
+    _ f _ (answered Close [] Closed []) _
     (λ told. refl) (rose_by_none f.reads) (λ told. refl) (none_fell_same f)
     (line_is c.print_reply-end.result _ c.args.output.now c.print_reply-end.new.line c.print_reply-end.ensures.printed)
     c.put_all.ensures.files c.put_all.ensures.file c.put_all.ensures.script (call_fell Puts c.put_all.result _ _ c.put_all.ensures.fails) (record {})
