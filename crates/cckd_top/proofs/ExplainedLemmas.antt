@@ -19,7 +19,7 @@ use Rattle.cckd_top.specs.Words.{words_fault, file_word}
 use Rattle.cckd_top.specs.World.{KeepsFiles, MakesSome, MakesThenPuts, PutsFront, IsPrinted, whole, cut_short}
 use Rattle.cckd_top.specs.Run.{halted, closed, unscripted, cut, script_limit, opening_in, HasHaltCause, OverTheFile, HasFileCause, words_are_bad, file_is_named, HaltMakes, IsBaseSync}
 use Rattle.cckd_top.specs.Explained.{IsExplainedBy, IsFileExplained, Finishes}
-use Rattle.cckd_top.proofs.FaultLemmas.{none_fell_same, none_fell_twice}
+use Rattle.cckd_shelf.proofs.FaultLemmas.{none_fell_self, none_fell_twice}
 use Rattle.cckd_top.proofs.WorldLemmas.{keeps_files_twice, makes_then_puts, only_makes_nothing}
 use Rattle.cckd_top.proofs.MountLemmas.{idle_makes}
 
@@ -115,7 +115,7 @@ module _ (tells : Type 0) (w between served end : World) (name : List ℕ) (befo
         record {
           end = closed serves.entries;
           cause = (
-            over_the_file serves.entries serves.served (subst (NoneFell later) (sym counts) (none_fell_same later)),
+            over_the_file serves.entries serves.served (subst (NoneFell later) (sym counts) (none_fell_self later)),
             λ told.
                 let whole_script = serves.stops.0 told in
                 subst (λ (v : World). OfTheScript script_limit w.script v.script serves.entries) (sym (same told))
@@ -150,7 +150,7 @@ module _ (tells : Type 0) (w between served end : World) (name : List ℕ) (befo
         record {
           end = cut serves.entries;
           cause = (
-            over_the_file serves.entries serves.served (subst (NoneFell later) (sym counts) (none_fell_same later)),
+            over_the_file serves.entries serves.served (subst (NoneFell later) (sym counts) (none_fell_self later)),
             λ told. subst (λ (s : List ℕ). OfAFront script_limit s serves.entries) (same_script told) (serves.stops.0 told),
           );
           printed = (

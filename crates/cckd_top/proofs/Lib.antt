@@ -1,7 +1,5 @@
-pub mod FaultLemmas
 pub mod WorldLemmas
 pub mod NameLemmas
-pub mod Putting
 pub mod ReplyLemmas
 pub mod ServingLemmas
 pub mod ScriptLemmas

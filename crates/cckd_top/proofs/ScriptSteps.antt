@@ -25,7 +25,7 @@ use Rattle.cckd_lines.specs.Lines.{OnlyTakes, IsPlace, IsAtEnd, IsNext, BreaksOf
 use Rattle.cckd_top.specs.Opening.{IsBase}
 use Rattle.cckd_top.specs.Serving.{IsLegal, HasServed, Serves, RoseBy, read_faults, worst, items_of_next, is_last, OfAFront, ServesScript}
 use Rattle.cckd_top.specs.World.{KeepsFiles, PutsFront}
-use Rattle.cckd_top.proofs.FaultLemmas.{none_fell_same, none_fell_twice}
+use Rattle.cckd_shelf.proofs.FaultLemmas.{none_fell_self, none_fell_twice}
 use Rattle.cckd_top.proofs.ServingLemmas.{rose_twice, rose_by_none}
 use Rattle.cckd_top.proofs.WorldLemmas.{all_twice, keeps_files_twice, keeps_files_same, takes_keeps, takes_file}
 use Rattle.cckd_lines.proofs.FillLemmas.{none_pending}
@@ -94,7 +94,7 @@ serves_none tells told l file limit w f room place is =
       read = λ t. subst (λ (n : ℕ). IsReadUpTo limit w.script w.script n false []) (omega arith) (reads_none limit w.script);
       files = λ t. keeps_files_same w;
       slot = λ t. refl;
-      fell = none_fell_same f;
+      fell = none_fell_self f;
       long = refl;
     })
 

@@ -28,7 +28,7 @@ use Rattle.cckd_script.specs.Text.{Entry, FitsCall, entry_text, script_text}
 use Rattle.cckd_top.specs.World.{KeepsFiles, PutsFront}
 use Rattle.cckd_top.specs.Reading.{IsReadReply}
 use Rattle.cckd_top.specs.Serving.{IsServed, IsAskedBy, IsLegal, HasServed, Serves, RoseBy, entry_faults, entry_status}
-use Rattle.cckd_top.proofs.FaultLemmas.{none_fell_same, none_fell_twice}
+use Rattle.cckd_shelf.proofs.FaultLemmas.{none_fell_self, none_fell_twice}
 use Rattle.cckd_top.proofs.WorldLemmas.{keeps_files_same}
 
 -- what was put at the front of a line is the line
@@ -106,7 +106,7 @@ none_served tells told l file w f items none = record {
   script = λ t. refl;
   files = λ t. keeps_files_same w;
   slot = λ t. refl;
-  fell = none_fell_same f;
+  fell = none_fell_self f;
 }
 
 -- a read is served, and gives no bytes; nothing else is asked

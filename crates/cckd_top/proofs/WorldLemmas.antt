@@ -1,5 +1,5 @@
 -- Steps of a run that only reads, in a row.
-use Rattle.std.proofs.Common.{◌≡◌, ℕ, Bool, true, false, cond, not, refl, sym, ◌∙◌, ap, subst, List, [], ◌∷◌, ◌++◌, Option, Some, None, Result, Ok, Err, OnOk, OnErr, unwrap_or, append_assoc, append-nil}
+use Rattle.std.proofs.Common.{◌≡◌, ℕ, Bool, true, false, cond, not, refl, sym, ◌∙◌, ap, subst, List, [], ◌∷◌, ◌++◌, Option, Some, None, Result, Ok, Err, OnOk, OnErr, unwrap_or, take, append_assoc, append-nil}
 use Rattle.std.specs.Prelude.{◌&&◌, ◌||◌, MatchBool, MatchOption}
 use Rattle.std.specs.Str.{bytes_eq}
 use Rattle.std.specs.List.{AllByRecursion}
@@ -10,9 +10,12 @@ use Rattle.cckd_shelf.specs.Outcomes.{AtEach, MayHave, MayBeLeft}
 use Rattle.cckd_shelf.proofs.MomentLemmas.{at_once, at_end, joins, next_at}
 use Rattle.cckd_shelf.proofs.NameLemmas.{text_is}
 use Rattle.cckd_shelf.proofs.OutcomeLemmas.{have_is_left}
+use Rattle.cckd_shelf.proofs.PutLemmas.{sure_at_puts, file_at_puts, at_puts, puts_output}
 use Rattle.cckd_shelf.proofs.WorldLemmas.{bind_keeps}
+use Rattle.cckd_shelf.specs.Frame.{puts, OnlyPuts}
+use Rattle.cckd_shelf.specs.Frame as front
 use Rattle.cckd_lines.specs.Lines.{OnlyTakes}
-use Rattle.cckd_top.specs.World.{AreIntact, StayIntact, KeepsFiles, OnlyMakes, MakesSome, MakesThenPuts}
+use Rattle.cckd_top.specs.World.{IsOutput, AreIntact, StayIntact, KeepsFiles, OnlyMakes, MakesSome, MakesThenPuts, PutsFront}
 
 pub all_twice : {X : Type 0} (P : X → Type 0) (xs ys : List X) → AllByRecursion P xs → AllByRecursion P ys → AllByRecursion P (xs ++ ys)
 all_twice P [] ys f g = g
@@ -136,3 +139,37 @@ takes_keeps a b h = keeps_files_still a b h.files h.events
 
 pub takes_file : (a b : World) → OnlyTakes a b → file_of b 0 ≡ file_of a 0
 takes_file a b h = ap (λ (events : List Event). file_now events 0) h.events
+
+-- pieces that were put change no file
+
+ops_at_puts : (pieces : List (List ℕ)) (es : List Event) → ops_of (puts pieces ++ es) ≡ ops_of es ++ ops_of (puts pieces)
+ops_at_puts [] es = sym (append-nil (ops_of es))
+ops_at_puts (piece ∷ earlier) es =
+    ap (λ (ops : List Event). ops ++ Put piece ∷ []) (ops_at_puts earlier es) ∙ append_assoc (ops_of es) (ops_of (puts earlier)) (Put piece ∷ [])
+
+only_puts : (pieces : List (List ℕ)) → AllByRecursion IsOutput (ops_of (puts pieces))
+only_puts [] = tt
+only_puts (piece ∷ earlier) = all_twice IsOutput (ops_of (puts earlier)) (Put piece ∷ []) (only_puts earlier) (tt, tt)
+
+intact_at_puts : (v : World) (pieces : List (List ℕ)) (es : List Event) → AreIntact v es → AreIntact v (puts pieces ++ es)
+intact_at_puts v [] es h = h
+intact_at_puts v (piece ∷ earlier) es h = intact_at_puts v earlier es h
+
+pub puts_keep : (text : List ℕ) (old new : World) → OnlyPuts text old new → KeepsFiles old new
+puts_keep text old new h = record {
+  files = h.files;
+  puts = ops_of (puts h.pieces);
+  only = only_puts h.pieces;
+  made = ap ops_of h.events ∙ ops_at_puts h.pieces old.events;
+  sure = ap is_sure h.events ∙ sure_at_puts h.pieces old.events;
+  intact = λ v here before. at_puts (AreIntact v) text old new h (λ ps more e. intact_at_puts v ps old.events before);
+}
+
+pub front_keeps : (text : List ℕ) (old new : World) → front.PutsFront text old new → KeepsFiles old new
+front_keeps text old new h = puts_keep (take h.count text) old new h.put
+
+pub front_file : (text : List ℕ) (old new : World) → front.PutsFront text old new → file_of new 0 ≡ file_of old 0
+front_file text old new h = ap (λ (es : List Event). file_now es 0) h.put.events ∙ file_at_puts h.put.pieces old.events 0
+
+pub front_said : (text : List ℕ) (old new : World) → front.PutsFront text old new → PutsFront old new text
+front_said text old new h = record { count = h.count; front = puts_output (take h.count text) old new h.put }

@@ -9,12 +9,11 @@ ghost use Rattle.cckd_top.specs.Opening.{IsBase};
 ghost use Rattle.cckd_top.specs.Serving.{ServesItems, IsServed, IsAskedBy, refusal_status, reply_status};
 
 use crate::reading::read_at;
-use crate::sink::put_all;
 use cckd_base::{Addr, Call, Layout, Refusal, Reply};
 use cckd_script::{
     LINE_LIMIT, LINE_ROOM, Misreading, What, parse_line, print_misreading, print_reply,
 };
-use cckd_shelf::{Failed, Slot, Stage};
+use cckd_shelf::{Failed, Slot, Stage, put_all};
 
 /// The status of a reply that refuses a call.
 const REFUSED: u8 = 1;

@@ -11,7 +11,6 @@ mod reading;
 mod run;
 mod serving;
 mod shadows;
-mod sink;
 mod status;
 #[cfg(test)]
 mod tests;

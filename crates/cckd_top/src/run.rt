@@ -12,11 +12,10 @@ ghost use Rattle.cckd_top.specs.World.{KeepsFiles, Prints};
 use crate::halt::Halt;
 use crate::mounting::mount;
 use crate::serving::{Stop, serve};
-use crate::sink::put_all;
 use crate::text::{HALT_ROOM, put_halt};
 use crate::words::named_file;
 use cckd_script::{LINE_LIMIT, LINE_ROOM};
-use cckd_shelf::{Failed, Slot, Stage};
+use cckd_shelf::{Failed, Slot, Stage, put_all};
 use std::alloc::Global;
 
 /// The status of a run that met a fault.

@@ -1,7 +1,7 @@
 use Rattle.std.specs.Prelude.{T}
 use Rattle.std.proofs.Common.{◌∙◌, inr}
 use Rattle.cckd_shelf.specs.World.{IsSure, file_of}
-use Rattle.cckd_top.proofs.FaultLemmas.{none_fell_twice, still_fell}
+use Rattle.cckd_shelf.proofs.FaultLemmas.{none_fell_twice, fails_fell}
 use Rattle.cckd_top.proofs.MountLemmas.{after_the_sync, same_disk, synced, halt_makes, base_is, shadow_is, sure_still, opens, opens_not_yet, halts}
 use Rattle.cckd_top.proofs.mounting.mount.Goals as goal
 
@@ -16,7 +16,7 @@ returns-in_default-opened-clause-cause g c =
     (g.T.Shows.faults c.open_base-opened.new.stage) c.open_base-opened.result
     (λ t. (t.0, sure_still tells w synced name disk (g.met.T.Shows.tied c.sync.new.self) t.0 t.1))
     (λ t. base_is tells w synced name disk (g.met.T.Shows.tied c.sync.new.self) t.0)
-    (none_fell_twice _ (g.T.Shows.faults c.bind_all.new.stage) _ (still_fell _ _ c.in-Ok.ensures.fails.still) (still_fell _ _ c.in-Ok-sync.ensures.fails.still))
+    (none_fell_twice _ (g.T.Shows.faults c.bind_all.new.stage) _ (fails_fell _ _ _ _ c.in-Ok.ensures.fails) (fails_fell _ _ _ _ c.in-Ok-sync.ensures.fails))
     c.open_base-opened.ensures.cause
 
 pub returns-in-Ok-false-clause-synced : goal.returns-in-Ok-false-clause-synced

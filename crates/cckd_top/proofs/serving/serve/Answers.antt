@@ -5,7 +5,7 @@ use Rattle.cckd_top.specs.declared.serving.Stop.TheVariants as stop
 use Rattle.cckd_top.specs.Serving.{ServesScript}
 use Rattle.cckd_top.proofs.ScriptSteps.{IsServing, is_closed, is_cut_at_the_end, serves_none, goes_on, is_cut, is_unscripted}
 use Rattle.cckd_shelf.specs.declared.fault.Kind.TheVariants.{Takes}
-use Rattle.cckd_top.proofs.FaultLemmas.{still_fell, raises_rose}
+use Rattle.cckd_shelf.proofs.FaultLemmas.{fails_fell, raises_rose}
 use Rattle.cckd_top.proofs.serving.serve.Goals as goal
 
 pub loop-found-init : goal.loop-found-init
@@ -21,7 +21,7 @@ pub returns-in_default : goal.returns-in_default
 returns-in_default g c =
     is_cut (T g.T.Shows.tells) c.args.l.now c.args.limit (g.T.Shows.world c.args.stage.now) (g.T.Shows.world c.loop-found.stage)
     (g.T.Shows.world c.next_line.new.stage) (g.T.Shows.world c.serve_next.new.stage) _ _ _ _ _ _ _ _ c.in-Ok.found.1 _ c.in-Ok.found.0
-    c.loop-found.invariant c.in-Ok.ensures.next c.in-Ok.ensures.only (still_fell _ _ c.in-Ok.ensures.fails.still) _ c.in_default.ensures
+    c.loop-found.invariant c.in-Ok.ensures.next c.in-Ok.ensures.only (fails_fell _ _ _ _ c.in-Ok.ensures.fails) _ c.in_default.ensures
 
 pub loop-found-preserved : goal.loop-found-preserved
 loop-found-preserved g c =
@@ -31,7 +31,7 @@ loop-found-preserved g c =
     (sym c.worse-worst.ensures)
     (goes_on (T g.T.Shows.tells) c.args.l.now c.args.limit (g.T.Shows.world c.args.stage.now) (g.T.Shows.world c.loop-found.stage)
     (g.T.Shows.world c.next_line.new.stage) (g.T.Shows.world c.serve_next.new.stage) _ _ _ _ _ _ _ _ c.in-Ok.found.1 _ c.in-Ok.found.0
-    c.loop-found.invariant c.in-Ok.ensures.next c.in-Ok.ensures.only (still_fell _ _ c.in-Ok.ensures.fails.still) c.in-Ok-serve_next.status c.in-Ok-serve_next.ensures
+    c.loop-found.invariant c.in-Ok.ensures.next c.in-Ok.ensures.only (fails_fell _ _ _ _ c.in-Ok.ensures.fails) c.in-Ok-serve_next.status c.in-Ok-serve_next.ensures
     (sym c.is_last.ensures ∙ c.if-is_last.false) c.in-Ok.ensures.place c.in-Ok.ensures.ended c.in-Ok.ensures.room)
 
 pub returns-in-Ok-close : goal.returns-in-Ok-close
@@ -43,7 +43,7 @@ returns-in-Ok-close g c =
     (is_closed (T g.T.Shows.tells) c.args.l.now c.args.limit (g.T.Shows.world c.args.stage.now) (g.T.Shows.world c.loop-found.stage)
     (g.T.Shows.world c.next_line.new.stage) (g.T.Shows.world c.serve_next.new.stage)
     _ _ _ _ _ _ _ _ c.in-Ok.found.1 _ c.in-Ok.found.0
-    c.loop-found.invariant c.in-Ok.ensures.next c.in-Ok.ensures.only (still_fell _ _ c.in-Ok.ensures.fails.still)
+    c.loop-found.invariant c.in-Ok.ensures.next c.in-Ok.ensures.only (fails_fell _ _ _ _ c.in-Ok.ensures.fails)
     (g.T.Shows.world c.close.new.stage) _ c.in-Ok-serve_next.status c.in-Ok-serve_next.ensures
     (sym c.is_last.ensures ∙ c.if-is_last.true) c.in-Ok-close.status c.in-Ok-close.ensures)
 
@@ -52,6 +52,6 @@ returns-in-Err-close g c =
     is_cut_at_the_end (T g.T.Shows.tells) c.args.l.now c.args.limit (g.T.Shows.world c.args.stage.now) (g.T.Shows.world c.loop-found.stage)
     (g.T.Shows.world c.next_line.new.stage) (g.T.Shows.world c.serve_next.new.stage)
     _ _ _ _ _ _ _ _ c.in-Ok.found.1 _ c.in-Ok.found.0
-    c.loop-found.invariant c.in-Ok.ensures.next c.in-Ok.ensures.only (still_fell _ _ c.in-Ok.ensures.fails.still)
+    c.loop-found.invariant c.in-Ok.ensures.next c.in-Ok.ensures.only (fails_fell _ _ _ _ c.in-Ok.ensures.fails)
     (g.T.Shows.world c.close.new.stage) _ c.in-Ok-serve_next.status c.in-Ok-serve_next.ensures
     (sym c.is_last.ensures ∙ c.if-is_last.true) _ c.in-Err-close.ensures
