@@ -1,6 +1,14 @@
+pub mod CleanLemmas
+pub mod FaultlessLemmas
 pub mod GrammarLemmas
+pub mod HeaderLemmas
+pub mod ImageLemmas
+pub mod MemberLemmas
+pub mod NumberLemmas
+pub mod OrderlyLemmas
+pub mod PlaceLemmas
 pub mod PutLemmas
 pub mod RecordLemmas
-pub mod TrackLemmas
 pub mod StopLemmas
-pub mod FaultlessLemmas
+pub mod TrackLemmas
+pub mod WriteLemmas

@@ -7,4 +7,5 @@ pub mod Track
 pub mod Header
 pub mod Misfit
 pub mod Survey
+pub mod Image
 pub mod Answer
