@@ -5,4 +5,5 @@ pub mod ParseLemmas
 pub mod SpelledLemmas
 pub mod PhraseLemmas
 pub mod PlainLemmas
+pub mod TextLemmas
 pub mod ToldLemmas

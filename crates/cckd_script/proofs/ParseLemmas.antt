@@ -1,10 +1,10 @@
 -- What a line asks by the tokens that are left behind a place.
-use Rattle.std.proofs.Common.{◌≡◌, ℕ, ◌+◌, ◌-◌, ◌<◌, ◌≤◌, List, [], ◌∷◌, length, drop, slice_range, Option, Some, None, Result, Ok, Err, refl, sym, ◌∙◌, ap, arith, length-drop}
+use Rattle.std.proofs.Common.{◌≡◌, ℕ, ◌+◌, ◌-◌, ◌<◌, ◌≤◌, List, [], ◌∷◌, length, drop, slice_range, Option, Some, None, Result, Ok, Err, sym, ◌∙◌, ap, arith, length-drop}
 use Rattle.std.proofs.lemmas.List.{length-take-le}
 use Rattle.cckd_script.specs.Lines.{tokens}
 use Rattle.cckd_script.specs.Grammar.{Kind, Value, value_of, value_before, values_of}
 use Rattle.cckd_script.specs.Parse.{Form, what_of, what_in, asked_by}
-use Rattle.cckd_script.specs.Inside.{behind, rest_tokens, values_behind, IsBehind, IsNone, AsksFor}
+use Rattle.cckd_script.specs.Inside.{rest_tokens, values_behind, IsBehind, IsNone, AsksFor}
 use Rattle.cckd_script.proofs.TokenLemmas.{behind_place, some_behind, none_behind}
 
 -- a token of a kind behind a place

@@ -1,18 +1,17 @@
 -- What is printed for a call determines what was said to it: a text is read back.
-use Rattle.std.proofs.Common.{◌≡◌, ◌≢◌, ◌≤◌, ℕ, zero, suc, ◌+◌, ◌-◌, ◌*◌, ◌<◌, ◌^◌, ◌==◌, Bool, true, false, ◌&&◌, if◌then◌else◌, List, [], ◌∷◌, ◌++◌, length, take, drop, map, flat_map, replicate, get_or, codes, decimal, Result, Ok, Err, refl, sym, ◌∙◌, ap, arith, length-append, length-drop}
+use Rattle.std.proofs.Common.{◌≡◌, ◌≤◌, ℕ, zero, suc, ◌+◌, ◌-◌, ◌*◌, ◌<◌, ◌^◌, ◌==◌, Bool, true, false, ◌&&◌, if◌then◌else◌, List, [], ◌∷◌, ◌++◌, length, take, drop, map, flat_map, replicate, get_or, codes, decimal, Result, refl, sym, ◌∙◌, ap, subst, arith, length-append, length-drop}
 use Rattle.std.specs.List.{AllByRecursion}
 use Rattle.std.specs.Str.{bytes_eq}
 use Rattle.std.specs.Result.{result_unwrap_or}
 use Rattle.std.proofs.lemmas.Bool.Decides.{nat_tests}
 use Rattle.std.proofs.lemmas.Fmt.{decimal_is_IsNumeral}
-use Rattle.std.proofs.lemmas.List.{take-append-drop, length-take-le, take_at}
+use Rattle.std.proofs.lemmas.List.{take-append-drop, length-take-le, take_at, append_cancel_right}
 use Rattle.hex.specs.Hex.{encode_lower, lower_digits, IsBytes, decode_of}
 use Rattle.hex.specs.declared.error.FromHexError.{FromHexError}
 use Rattle.hex.proofs.HexLemmas.{decode_of-encode_lower, length-encode_with}
 use Rattle.cckd_base.specs.declared.geometry.Addr.{Addr}
 use Rattle.cckd_base.specs.declared.fault.TrackFault.{TrackFault}
 use Rattle.cckd_base.specs.declared.fault.TrackFault.TheVariants as fault
-use Rattle.cckd_base.specs.declared.space.Full.{Full}
 use Rattle.cckd_base.specs.declared.call.Call.{Call}
 use Rattle.cckd_base.specs.declared.turn.Turn.{Turn}
 use Rattle.cckd_base.specs.declared.turn.Turn.TheVariants as turn
@@ -21,12 +20,13 @@ use Rattle.cckd_base.specs.declared.reply.Reply.TheVariants as reply
 use Rattle.cckd_base.specs.declared.reply.Refusal.{Refusal}
 use Rattle.cckd_base.specs.declared.reply.Refusal.TheVariants as refusal
 use Rattle.cckd_script.specs.declared.misread.Misreading.{Misreading}
-use Rattle.cckd_script.specs.declared.misread.Misreading.TheVariants as misreading
 use Rattle.cckd_script.specs.Lines.{tokens}
-use Rattle.cckd_script.specs.Phrase.{Part, number, marked, hex, hex_text, Phrase, phrase_text}
+use Rattle.cckd_script.specs.Phrase.{number, hex_text}
 use Rattle.cckd_script.specs.Grammar.{number_value}
-use Rattle.cckd_script.specs.Text.{at_address, call_address, call_record, turn_phrase, refusal_phrase, reply_phrase, reply_text, misreading_phrase, FitsCall, CallFits, FaultFits, TurnFits, RefusalFits, ReplyFits, MisreadingFits, IsAnswer, IsLine, reply_line, misreading_text, misreading_line, answered_length, answered_bytes}
-use Rattle.cckd_script.proofs.PlainLemmas.{IsPlain, PartsFit, PhraseFits, part_tokens, phrase_tokens, tokens_of_phrase, feedless_phrase}
+use Rattle.cckd_script.specs.Text.{call_address, call_record, turn_phrase, refusal_phrase, reply_phrase, reply_text, FitsCall, CallFits, FaultFits, TurnFits, RefusalFits, ReplyFits, IsAnswer, answered_length, answered_bytes, Entry, answered, misread, EntryFits, entry_text}
+use Rattle.cckd_script.specs.Items.{asked, unread, item_of}
+use Rattle.cckd_script.proofs.TextLemmas.{reply_fits}
+use Rattle.cckd_script.proofs.PlainLemmas.{part_tokens, phrase_tokens, tokens_of_phrase}
 
 -- a reply and the bytes answered
 abbrev Said : Type 0
@@ -272,95 +272,12 @@ answer_back call input at num (reply.Checked level bad) bytes f =
 answer_back call input at num reply.Closed bytes f = bare _ reply.Closed bytes refl f.len
 answer_back call input at num (reply.Refused why) bytes f = bare _ (reply.Refused why) bytes (refusal_back why f.numbers) f.len
 
--- The phrases of replies can be told.
-fits_32 : (n : ℕ) → n < 2 ^ 32 → n < 2 ^ 64
-fits_32 n small = omega (arith, small)
-
-fits_16 : (n : ℕ) → n < 2 ^ 16 → n < 2 ^ 64
-fits_16 n small = omega (arith, small)
-
-fits_8 : (n : ℕ) → n < 2 ^ 8 → n < 2 ^ 64
-fits_8 n small = omega (arith, small)
-
-plain_colon : IsPlain (58 ∷ [])
-plain_colon = ((λ e. omega (arith, e), λ e. omega (arith, e)), tt)
-
-plain_comma : IsPlain (44 ∷ [])
-plain_comma = ((λ e. omega (arith, e), λ e. omega (arith, e)), tt)
-
-fault_fits : (f : TrackFault) → FaultFits f → PhraseFits (refusal_phrase (refusal.Track f))
-fault_fits (fault.TooLong len max) h = record { front = refl; parts = (fits_32 len h.0, (refl, (fits_32 max h.1, tt))) }
-fault_fits (fault.NoEnd at) h = record { front = refl; parts = (fits_32 at h, tt) }
-fault_fits (fault.Compressed byte) h = record { front = refl; parts = (fits_8 byte h, tt) }
-fault_fits (fault.WrongTrack cyl head) h = record { front = refl; parts = (fits_16 cyl h.0, (fits_16 head h.1, tt)) }
-fault_fits (fault.BadRecord at) h = record { front = refl; parts = (fits_32 at h, tt) }
-
-refusal_fits : (why : Refusal) → RefusalFits why → PhraseFits (refusal_phrase why)
-refusal_fits refusal.NoSuchTrack h = record { front = refl; parts = tt }
-refusal_fits (refusal.Track f) h = fault_fits f h
-refusal_fits (refusal.NoRecord num) h = record { front = refl; parts = (fits_8 num h, tt) }
-refusal_fits (refusal.LengthDiffers has) h = record { front = refl; parts = (fits_32 has h, tt) }
-refusal_fits (refusal.Full full) h =
-    record { front = refl; parts = (fits_32 full.need h.0, (refl, (fits_32 full.largest h.1, (refl, (fits_32 full.room h.2, tt))))) }
-refusal_fits (refusal.TooMany have) h = record { front = refl; parts = (fits_8 have h, tt) }
-refusal_fits refusal.OnlyBase h = record { front = refl; parts = tt }
-refusal_fits refusal.ReadFault h = record { front = refl; parts = tt }
-refusal_fits refusal.WriteFault h = record { front = refl; parts = tt }
-refusal_fits refusal.SyncFault h = record { front = refl; parts = tt }
-refusal_fits (refusal.Broken at) h = record { front = refl; parts = (h, tt) }
-refusal_fits refusal.Memory h = record { front = refl; parts = tt }
-
-turn_fits : (t : Turn) → TurnFits t → PhraseFits (turn_phrase t)
-turn_fits (turn.Copied track to) h = record { front = refl; parts = (fits_32 track h.0, (refl, (fits_32 to h.1, tt))) }
-turn_fits (turn.Moved track from to) h =
-    record { front = refl; parts = (fits_32 track h.0, (refl, (fits_32 from h.1, (refl, (fits_32 to h.2, tt))))) }
-turn_fits (turn.MovedTable group from to) h =
-    record { front = refl; parts = (fits_32 group h.0, (refl, (fits_32 from h.1, (refl, (fits_32 to h.2, tt))))) }
-turn_fits (turn.GivenUp track picked now) h =
-    record { front = refl; parts = ((fits_32 track h.0, plain_colon), (refl, ((fits_32 picked h.1, plain_comma), (refl, (fits_32 now h.2, tt))))) }
-turn_fits (turn.Trimmed size) h = record { front = refl; parts = (fits_32 size h, tt) }
-turn_fits turn.Idle h = record { front = refl; parts = tt }
-
-counts_fit : (counts : List ℕ) → AllByRecursion (λ n. n < 2 ^ 32) counts → PartsFit (map number counts)
-counts_fit [] small = tt
-counts_fit (n ∷ counts) small = (fits_32 n small.0, counts_fit counts small.1)
-
--- an address of a call and what follows
-at_fits : (at : Addr) (parts : List Part) → at.cyl < 2 ^ 16 → at.head < 2 ^ 16 → PartsFit parts → PartsFit (at_address at parts)
-at_fits at parts cylinder head fit = (fits_16 at.cyl cylinder, (fits_16 at.head head, fit))
-
-pub reply_fits : (call : Call) (answer : Reply) (bytes : List ℕ) → CallFits call → ReplyFits answer
-    → PhraseFits (reply_phrase (call_address call) (call_record call) answer bytes)
-reply_fits call (reply.Track len) bytes asked h = record { front = refl; parts = at_fits (call_address call) (number len ∷ hex bytes ∷ []) asked.cylinder asked.head (fits_32 len h, (tt, tt)) }
-reply_fits call (reply.Written len) bytes asked h = record { front = refl; parts = at_fits (call_address call) (number len ∷ []) asked.cylinder asked.head (fits_32 len h, tt) }
-reply_fits call (reply.Record key_len body_len) bytes asked h =
-    record { front = refl; parts = at_fits (call_address call) (number (call_record call) ∷ hex (take key_len bytes) ∷ hex (drop key_len bytes) ∷ []) asked.cylinder asked.head (fits_8 (call_record call) asked.num, (tt, (tt, tt))) }
-reply_fits call (reply.Replaced len) bytes asked h =
-    record { front = refl; parts = at_fits (call_address call) (number (call_record call) ∷ number len ∷ []) asked.cylinder asked.head (fits_8 (call_record call) asked.num, (fits_32 len h, tt)) }
-reply_fits call reply.Hardened bytes asked h = record { front = refl; parts = tt }
-reply_fits call (reply.Turned t) bytes asked h = turn_fits t h
-reply_fits call (reply.Added slot) bytes asked h = record { front = refl; parts = (fits_8 slot h, tt) }
-reply_fits call (reply.Merged slot) bytes asked h = record { front = refl; parts = (fits_8 slot h, tt) }
-reply_fits call (reply.Dropped slot) bytes asked h = record { front = refl; parts = (fits_8 slot h, tt) }
-reply_fits call reply.Compressed bytes asked h = record { front = refl; parts = tt }
-reply_fits call (reply.Shown layers counts) bytes asked h =
-    record { front = refl; parts = ((fits_8 layers h.0, plain_colon), counts_fit (take layers counts) h.1) }
-reply_fits call (reply.Checked level bad) bytes asked h =
-    record { front = refl; parts = ((fits_8 level h.0, plain_colon), (fits_32 bad h.1, (refl, tt))) }
-reply_fits call reply.Closed bytes asked h = record { front = refl; parts = tt }
-reply_fits call (reply.Refused why) bytes asked h = refusal_fits why h
-
-pub misreading_fits : (why : Misreading) → MisreadingFits why → PhraseFits (misreading_phrase why)
-misreading_fits (misreading.LineFault column) h = record { front = refl; parts = (fits_32 column h, tt) }
-misreading_fits misreading.LineTooLong h = record { front = refl; parts = tt }
-misreading_fits misreading.ScriptTooLong h = record { front = refl; parts = tt }
-
 -- the text of a reply to a call determines the reply and the bytes that were answered
 pub told : (call : Call) (input : ℕ) (answer other : Reply) (bytes more : List ℕ) → CallFits call → IsAnswer call input answer bytes
     → IsAnswer call input other more → reply_text call answer bytes ≡ reply_text call other more → (answer ≡ other) × (bytes ≡ more)
-told call input answer other bytes more asked f g e =
-    let one = tokens_of_phrase (reply_phrase (call_address call) (call_record call) answer bytes) (reply_fits call answer bytes asked f.numbers) in
-    let two = tokens_of_phrase (reply_phrase (call_address call) (call_record call) other more) (reply_fits call other more asked g.numbers) in
+told call input answer other bytes more numbers f g e =
+    let one = tokens_of_phrase (reply_phrase (call_address call) (call_record call) answer bytes) (reply_fits call answer bytes numbers f.numbers) in
+    let two = tokens_of_phrase (reply_phrase (call_address call) (call_record call) other more) (reply_fits call other more numbers g.numbers) in
     let same : said answer bytes ≡ said other more =
     sym (answer_back call input (call_address call) (call_record call) answer bytes f) ∙ ap read_back (sym one ∙ ap tokens e ∙ two) ∙ answer_back call input (call_address call) (call_record call) other more g in
     (ap (λ (s : Said). s.0) same, ap (λ (s : Said). s.1) same)
@@ -375,27 +292,28 @@ is_answer call input answer buffer fits numbers within values = record {
   len = length-take-le (answered_length answer) buffer within;
 }
 
--- the line of a reply is one line
-pub reply_is_line : (call : Call) (answer : Reply) (bytes : List ℕ) → CallFits call → ReplyFits answer → IsLine (reply_line call answer bytes)
-reply_is_line call answer bytes asked h = record {
-  front = reply_text call answer bytes;
-  ends = refl;
-  bare = feedless_phrase (reply_phrase (call_address call) (call_record call) answer bytes) (reply_fits call answer bytes asked h);
-}
+same_asked : (call other : Call) (given also : List ℕ) → asked call given ≡ asked other also → (call ≡ other) × (given ≡ also)
+same_asked call other given also e = (cc, cc)
 
--- so is that of a line that is refused
-pub misreading_is_line : (why : Misreading) → MisreadingFits why → IsLine (misreading_line why)
-misreading_is_line why h = record {
-  front = misreading_text why;
-  ends = refl;
-  bare = feedless_phrase (misreading_phrase why) (misreading_fits why h);
-}
+same_unread : (why other : Misreading) → unread why ≡ unread other → why ≡ other
+same_unread why other e = cc
 
--- each number of a call is one of its type
-pub call_fits : (call : Call) (at : Addr) (num : ℕ) → at ≡ call_address call → num ≡ call_record call → at.cyl < 2 ^ 16 → at.head < 2 ^ 16
-    → num < 2 ^ 8 → CallFits call
-call_fits call at num place which cylinder head small = record {
-  cylinder = omega (arith, cylinder, ap (λ (a : Addr). a.cyl) place);
-  head = omega (arith, head, ap (λ (a : Addr). a.head) place);
-  num = omega (arith, small, which);
-}
+-- text and item determine what was said
+pub told_entry : (entry other : Entry) → EntryFits entry → EntryFits other → item_of entry ≡ item_of other
+    → entry_text entry ≡ entry_text other → entry ≡ other
+told_entry (answered call given answer bytes) (answered another also reply more) f g same e =
+    let parts = same_asked call another given also same in
+    let fits : IsAnswer call (length given) reply more =
+    subst (λ (c : Call). IsAnswer c (length given) reply more) (sym parts.0)
+    (subst (λ (bs : List ℕ). IsAnswer another (length bs) reply more) (sym parts.1) g.1) in
+    let text : reply_text call answer bytes ≡ reply_text call reply more =
+    append_cancel_right (reply_text call answer bytes) (reply_text another reply more) (10 ∷ []) e
+    ∙ ap (λ (c : Call). reply_text c reply more) (sym parts.0) in
+    let what = told call (length given) answer reply bytes more f.0 f.1 fits text in
+    ap (λ (c : Call). answered c given answer bytes) parts.0
+    ∙ ap (λ (bs : List ℕ). answered another bs answer bytes) parts.1
+    ∙ ap (λ (r : Reply). answered another also r bytes) what.0
+    ∙ ap (answered another also reply) what.1
+told_entry (answered call given answer bytes) (misread why) f g same e = cc same
+told_entry (misread why) (answered call given answer bytes) f g same e = cc same
+told_entry (misread why) (misread other) f g same e = ap misread (same_unread why other same)

@@ -1,5 +1,5 @@
 -- What the parts of the reading of a line say of their piece of it.
-use Rattle.std.specs.Prelude.{◌≡◌, ℕ, ◌+◌, ◌<◌, ◌≤◌, ◌==◌, Bool, List, [], ◌∷◌, length, drop, decimal, Some, Result, Ok, Err}
+use Rattle.std.specs.Prelude.{◌≡◌, ℕ, ◌+◌, ◌≤◌, ◌==◌, Bool, List, [], ◌∷◌, length, drop, Some, Result, Err}
 use Rattle.cckd_script.specs.declared.parse.Number.{Number}
 use Rattle.cckd_script.specs.declared.parse.What.{What}
 use Rattle.cckd_script.specs.declared.parse.LineFault.{LineFault}

@@ -8,7 +8,7 @@ use Rattle.cckd_script.specs.declared.parse.LineFault.{LineFault}
 use Rattle.cckd_script.specs.declared.parse.What.{What}
 use Rattle.cckd_script.specs.declared.parse.What.TheVariants as what
 use Rattle.cckd_script.specs.Lines.{tokens}
-use Rattle.cckd_script.specs.Grammar.{Kind, word, number, Value, amount, values_of}
+use Rattle.cckd_script.specs.Grammar.{Kind, number, Value, amount, values_of}
 
 -- what a line asks: nothing, a call with the bytes that it gives, or so many steps of the collector
 pub data Request : Type 0 where

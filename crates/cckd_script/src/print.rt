@@ -3,7 +3,7 @@
 ghost use Rattle.std.specs.Prelude.{◌≡◌, ◌≤◌, ℕ, List, length, IsNone};
 ghost use Rattle.cckd_base.specs.declared.reply.Reply.{Reply as Answer};
 ghost use Rattle.cckd_base.specs.Put.{IsPut};
-ghost use Rattle.cckd_script.specs.Text.{call_address, call_record, FitsCall, IsAnswer, IsLine, reply_text, reply_line, misreading_line, answered_length, answered_bytes};
+ghost use Rattle.cckd_script.specs.Text.{call_address, call_record, CallFits, FitsCall, IsAnswer, IsLine, reply_text, reply_line, misreading_line, answered_length, answered_bytes};
 
 use crate::misread::Misreading;
 use crate::text::{put_misreading, put_reply};
@@ -55,6 +55,8 @@ pub fn print_reply(
         (reply_line call reply.now (answered_bytes reply.now out.now)) line.old line.new }
     ensures within { result ≤ LINE_ROOM }
     ensures one_line { IsLine (reply_line call reply.now (answered_bytes reply.now out.now)) }
+    ensures asked { CallFits call }
+    ensures answer { IsAnswer call input_len reply.now (answered_bytes reply.now out.now) }
 
     // Text and call determine the reply, and the bytes that it answers.
     ensures told { (other : Answer) (bytes : List ℕ) → IsAnswer call input_len other bytes

@@ -1,6 +1,6 @@
 use Rattle.std.proofs.Common.{ap, ◌∙◌, arith, List, ℕ}
 use Rattle.cckd_script.specs.Grammar.{spelled_number, number_within}
-use Rattle.cckd_script.proofs.GrammarLemmas.{value_of_number, no_number, out_of_range}
+use Rattle.cckd_script.proofs.GrammarLemmas.{value_of_number, out_of_range}
 use Rattle.cckd_script.proofs.parse.number_from.Goals as goal
 use Rattle.cckd_script.proofs.parse.number_from.Goals.{then-number-least-via-then-number-least, then-number-least-via-else-number-least+then-most-number}
 

@@ -1,8 +1,7 @@
-use Rattle.std.proofs.Common.{◌≡◌, ◌∷◌, [], Ok, Err}
+use Rattle.std.proofs.Common.{◌∷◌, [], Ok, Err}
 use Rattle.std.proofs.lemmas.Result.{err_from_is_err_and}
 use Rattle.cckd_script.specs.Grammar.{number, amount}
 use Rattle.cckd_script.specs.Parse.{read_form}
-use Rattle.cckd_script.specs.Inside.{values_behind}
 use Rattle.cckd_script.proofs.ParseLemmas.{then_values, asks_none, asks_some}
 use Rattle.cckd_script.proofs.parse.read_call.Goals as goal
 

@@ -1,4 +1,4 @@
-use Rattle.std.proofs.Common.{◌≡◌, length, sym, ◌∙◌, subst, arith, ◌+◌, ◌≤◌, ℕ}
+use Rattle.std.proofs.Common.{◌≡◌, length, arith}
 use Rattle.cckd_script.specs.declared.phrase.Part.TheVariants.{Number}
 use Rattle.cckd_script.proofs.PhraseLemmas.{none_so_far, one_more, room_for_one, room_behind}
 use Rattle.cckd_script.proofs.phrase.put_phrase.Goals as goal

@@ -1,6 +1,5 @@
-use Rattle.std.proofs.Common.{◌+◌, ◌≤◌, length, take}
-use Rattle.cckd_base.specs.Put.{IsPut}
-use Rattle.cckd_script.specs.Phrase.{parts_of, parts_room, phrase}
+use Rattle.std.proofs.Common.{take}
+use Rattle.cckd_script.specs.Phrase.{parts_of}
 use Rattle.cckd_script.proofs.PhraseLemmas.{PutSoFar}
 use Rattle.cckd_script.proofs.phrase.put_phrase.Given as goal
 

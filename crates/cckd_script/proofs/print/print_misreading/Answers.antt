@@ -1,4 +1,4 @@
-use Rattle.cckd_script.proofs.ToldLemmas.{misreading_is_line}
+use Rattle.cckd_script.proofs.TextLemmas.{misreading_is_line}
 use Rattle.cckd_script.proofs.print.print_misreading.Goals as goal
 
 pub returns-clause-one_line : goal.returns-clause-one_line

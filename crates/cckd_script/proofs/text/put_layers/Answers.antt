@@ -1,5 +1,5 @@
 use Rattle.cckd_base.specs.Put.{IsPut}
-use Rattle.std.proofs.Common.{◌≡◌, ◌+◌, ◌≤◌, [], ◌∷◌, length, codes, subst, ap, arith}
+use Rattle.std.proofs.Common.{◌≤◌, [], ◌∷◌, length, subst, arith}
 use Rattle.cckd_script.specs.Phrase.{phrase, number, marked}
 use Rattle.cckd_script.proofs.PhraseLemmas.{counts_more, counts_room, all_by_places}
 use Rattle.cckd_script.proofs.text.put_layers.Goals as goal
