@@ -14,7 +14,8 @@ use Rattle.cckd_shelf.specs.Events.{output_of}
 use Rattle.cckd_shelf.specs.World.{World, IsSure, file_of}
 use Rattle.cckd_script.specs.declared.misread.Misreading.TheVariants as misreading
 use Rattle.cckd_script.specs.Parse.{parsed}
-use Rattle.cckd_script.specs.Items.{Item, asked, unread, line_items, items_of, script_items, item_of}
+use Rattle.cckd_script.specs.Items.{Item, unread, line_items, items_of, script_items, item_of}
+use Rattle.cckd_script.specs.Items as item
 use Rattle.cckd_script.specs.Lines.{line_limit}
 use Rattle.cckd_script.specs.Text.{Entry, entry_text, script_text}
 use Rattle.cckd_lines.specs.declared.lines.Place.{Place}
@@ -120,13 +121,13 @@ module _ (limit : ℕ) (script rest rest' room : List ℕ) (left : ℕ) (ended :
     reads_next next.End is going = absurd (false≢true (sym going))
 
     pub reads_last : (left_of_it : List ℕ) (found : Next) → (rest' ≡ [] → left_of_it ≡ []) → (behind.end ≤ behind.start → left_of_it ≡ rest') → IsNext room rest rest' left behind found → is_last found ≡ true
-        → ((items ++ items_of_next room found) ++ asked Close [] ∷ [] ≡ script_items limit script) × ((left_of_it ≡ []) ⊎ ((limit < length script) × (left_of_it ≡ drop (limit + 1) script)))
+        → ((items ++ items_of_next room found) ++ item.asked Close [] ∷ [] ≡ script_items limit script) × ((left_of_it ≡ []) ⊎ ((limit < length script) × (left_of_it ≡ drop (limit + 1) script)))
     reads_last left_of_it (next.Line start end) none same is over = absurd (false≢true over)
     reads_last left_of_it next.LineTooLong none same is over = absurd (false≢true over)
     reads_last left_of_it next.ScriptTooLong none same is over =
         let all = reads_limit limit script rest left ended items so_far rest' is.0 is.1 is.2 in (all.0, inr (all.1, same is.3 ∙ all.2))
     reads_last left_of_it next.End none same is over = (
-      ap (λ (s : List Item). s ++ asked Close [] ∷ []) (append-nil items) ∙ reads_all limit script rest left ended items so_far is.0,
+      ap (λ (s : List Item). s ++ item.asked Close [] ∷ []) (append-nil items) ∙ reads_all limit script rest left ended items so_far is.0,
       inl (none is.1),
     )
 
@@ -137,9 +138,9 @@ module _ (limit : ℕ) (script rest rest' room : List ℕ) (left : ℕ) (ended :
     reads_some next.LineTooLong is =
         reads_front limit script rest' (allowance behind) behind.ended (items ++ items_of_next room next.LineTooLong) (reads_next next.LineTooLong is refl)
     reads_some next.ScriptTooLong is =
-        (asked Close [] ∷ [], (reads_last rest' next.ScriptTooLong (λ e. e) (λ _. refl) is refl).0)
+        (item.asked Close [] ∷ [], (reads_last rest' next.ScriptTooLong (λ e. e) (λ _. refl) is refl).0)
     reads_some next.End is =
-        (asked Close [] ∷ [], (reads_last rest' next.End (λ e. e) (λ _. refl) is refl).0)
+        (item.asked Close [] ∷ [], (reads_last rest' next.End (λ e. e) (λ _. refl) is refl).0)
 
 -- what was legal over the file of a later world is so over that of the first
 served_earlier : (tells : Type 0) (l : Layout) (w now : World) (a b : Faults) (es : List Entry)
@@ -273,7 +274,7 @@ module _ (tells : Type 0) (l : Layout) (limit : ℕ) (w now between then : World
             ∙ ap (λ (s : List ℕ). output_of w.events ++ s) (sym (text_twice so_far.entries serves.entries))
 
         module _ (result : Result ℕ Failed)
-            (closes : Serves tells (tells × IsSure then) l (file_of then 0) then end served closed (asked Close [] ∷ []) result)
+            (closes : Serves tells (tells × IsSure then) l (file_of then 0) then end served closed (item.asked Close [] ∷ []) result)
           where
             every_entry : List Entry
             every_entry = (so_far.entries ++ serves.entries) ++ closes.entries
@@ -315,7 +316,7 @@ module _ (tells : Type 0) (l : Layout) (limit : ℕ) (w now between then : World
                 closes.fell
 
         pub is_closed : (last_answer : ℕ)
-            → (closes : Serves tells (tells × IsSure then) l (file_of then 0) then end served closed (asked Close [] ∷ []) (Ok last_answer))
+            → (closes : Serves tells (tells × IsSure then) l (file_of then 0) then end served closed (item.asked Close [] ∷ []) (Ok last_answer))
             → ServesScript tells (tells × IsSure w) l (file_of w 0) limit w end before closed (stop.Closed (max (max status answer) last_answer))
         unfolding every_entry
         is_closed last_answer closes = record {
@@ -342,7 +343,7 @@ module _ (tells : Type 0) (l : Layout) (limit : ℕ) (w now between then : World
         }
 
         pub is_cut_at_the_end : (failed : Failed)
-            → (closes : Serves tells (tells × IsSure then) l (file_of then 0) then end served closed (asked Close [] ∷ []) (Err failed))
+            → (closes : Serves tells (tells × IsSure then) l (file_of then 0) then end served closed (item.asked Close [] ∷ []) (Err failed))
             → ServesScript tells (tells × IsSure w) l (file_of w 0) limit w end before closed stop.Cut
         unfolding every_entry
         is_cut_at_the_end failed closes = record {

@@ -153,12 +153,12 @@ read_only [] = tt
 read_only (b ∷ rest) = read_line_by (b == 35) (parsed_tokens (tokens (b ∷ rest))) (read_tokens (tokens (b ∷ rest)))
 
 -- what a parsed line asks, as the code has it
-what_asked : Result Line LineFault → Result What Misreading
+abbrev pub what_asked : Result Line LineFault → Result What Misreading
 what_asked (Ok line) = Ok line.what
 what_asked (Err fault) = Err (misreading.LineFault fault.column)
 
 asked_of : (line : List ℕ) (r : Result Request LineFault) → IsReadOnly r → line_items line ≡ items_of r → IsAskedBy line (what_asked (line_in r))
-unfolding IsReadOnly what_asked
+unfolding IsReadOnly
 asked_of line (Ok nothing) only is = is
 asked_of line (Ok (one call given)) only is = (only.0, is ∙ ap (λ (bytes : List ℕ). asked call bytes ∷ []) only.1)
 asked_of line (Ok (turns count)) only is = absurd only
@@ -173,12 +173,10 @@ line_asked line r short e =
     subst (λ (x : Result Line LineFault). IsAskedBy line (what_asked x)) (sym e) (asked_of line (parsed line) (read_only line) (line_items_are line short))
 
 pub asked_ok : (line : List ℕ) (r : Result Line LineFault) (l : Line) → r ≡ Ok l → IsAskedBy line (what_asked r) → IsAskedBy line (Ok l.what)
-unfolding what_asked
 asked_ok line r l e h = subst (λ (x : Result Line LineFault). IsAskedBy line (what_asked x)) e h
 
 pub asked_err : (line : List ℕ) (r : Result Line LineFault) (fault : LineFault) → r ≡ Err fault → IsAskedBy line (what_asked r)
     → IsAskedBy line (Err (misreading.LineFault fault.column))
-unfolding what_asked
 asked_err line r fault e h = subst (λ (x : Result Line LineFault). IsAskedBy line (what_asked x)) e h
 
 -- a reply to a read may be printed

@@ -1,0 +1,4 @@
+use Rattle.cckd_top.proofs.text.put_overlap.Goals as goal
+
+pub returns-clause-put : goal.returns-clause-put
+returns-clause-put c = ?
