@@ -1,5 +1,6 @@
 pub mod MeetLemmas
 pub mod OrderLemmas
+pub mod KeptLemmas
 pub mod ItemLemmas
 pub mod SurveyLemmas
 pub mod FormedLemmas

@@ -4,6 +4,7 @@
 mod collecting;
 mod items;
 mod judging;
+mod kept;
 mod overlap;
 mod reading;
 mod scanning;
