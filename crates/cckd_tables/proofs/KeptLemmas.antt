@@ -96,14 +96,13 @@ met_back at y ys e h s l =
     let later = stand_from (y.pos + y.size) ys (stand_parts at y ys h).1 in
     elim (cases_Bool (share_a_byte y e)) [
       | inl t ↦ ap (λ (m : Option Extent). lower m (met ys e)) (cond-true (share_a_byte y e) (Some y) None t)
-        ∙ lowest_stays y ys e (all_between (λ (k : Extent). y.pos + y.size ≤ k.pos) (λ (k : Extent). y.pos ≤ k.pos) (λ k b. omega arith) ys later)
-        ∙ sym (ap (λ (m : Option Extent). lower m None) (cond-true (share_a_byte y e) (Some y) None t))
+          ∙ lowest_stays y ys e (all_between (λ (k : Extent). y.pos + y.size ≤ k.pos) (λ (k : Extent). y.pos ≤ k.pos) (λ k b. omega arith) ys later)
+          ∙ sym (ap (λ (m : Option Extent). lower m None) (cond-true (share_a_byte y e) (Some y) None t))
       | inr f ↦ elim (cases_lt y.pos (e.pos + e.size)) [
         | inl under ↦ absurd (share_not y e f under (omega arith))
         | inr past ↦ ap (lower (hit y e)) (none_behind ys e (all_between (λ (k : Extent). y.pos + y.size ≤ k.pos) (λ (k : Extent). e.pos + e.size ≤ k.pos) (λ k b. omega arith) ys later))
       ]
     ]
-
 
 -- spaces in two parts: those that begin before this one, and those that begin with it or behind it
 pub record Parts (xs front back : List Extent) (e : Extent) : Type 0 where
@@ -181,6 +180,7 @@ run_met run at d e before behind b h l p u v = joined_met run (take at run) (dro
         front_last (take at run) run (drop at run) (take (at - 1) run) (get_or run (at - 1) d) e h p
         (ap (λ (k : ℕ). take k run) n ∙ take_more run (at - 1) d (omega arith))
         ∙ sym (ap (λ (m : Option Extent). met (option_to_list m) e) w.1)
+
     back : ((at ≡ length run) × (behind ≡ None)) ⊎ ((at < length run) × (behind ≡ Some (get_or run at d)))
         → met (drop at run) e ≡ met (option_to_list behind) e
     back (inl w) =
@@ -323,11 +323,13 @@ inserted_places (x ∷ es) e k a =
     let goal = λ (es' : List (ℕ × Extent)). (values_of es' ≡ placed_among e (values_of (x ∷ es))) × AreKeyed es' in
     elim (cases_lt e.pos x.0) [
       | inl low ↦ subst goal (sym (ap (λ o. match_ordering o ((e.pos, e) ∷ x ∷ es) ((x.0, e) ∷ es) (x ∷ insert_entry nat_cmp es e.pos e)) (compared_less e.pos x.0 low)))
-        (sym (cond-true (nat_le e.pos x.1.pos) (e ∷ x.1 ∷ values_of es) (x.1 ∷ placed_among e (values_of es)) (le-leb e.pos x.1.pos (omega arith))), (refl, k))
+          (sym (cond-true (nat_le e.pos x.1.pos) (e ∷ x.1 ∷ values_of es) (x.1 ∷ placed_among e (values_of es)) (le-leb e.pos x.1.pos (omega arith))), (refl, k))
       | inr high ↦ let strictly = above x.0 e.pos high a.0 in
-        subst goal (sym (ap (λ o. match_ordering o ((e.pos, e) ∷ x ∷ es) ((x.0, e) ∷ es) (x ∷ insert_entry nat_cmp es e.pos e)) (compared_greater e.pos x.0 strictly)))
-        (ap (λ (ys : List Extent). x.1 ∷ ys) rest.0
-        ∙ sym (cond-false (nat_le e.pos x.1.pos) (e ∷ x.1 ∷ values_of es) (x.1 ∷ placed_among e (values_of es)) (lt-leb e.pos x.1.pos (omega arith))), (k.0, rest.1))
+          subst goal (sym (ap (λ o. match_ordering o ((e.pos, e) ∷ x ∷ es) ((x.0, e) ∷ es) (x ∷ insert_entry nat_cmp es e.pos e)) (compared_greater e.pos x.0 strictly))) (
+            ap (λ (ys : List Extent). x.1 ∷ ys) rest.0
+                ∙ sym (cond-false (nat_le e.pos x.1.pos) (e ∷ x.1 ∷ values_of es) (x.1 ∷ placed_among e (values_of es)) (lt-leb e.pos x.1.pos (omega arith))),
+            (k.0, rest.1),
+          )
     ]
   where
     above : (a b : ℕ) → a ≤ b → (b ≡ a → ⊥) → a < b
@@ -462,18 +464,22 @@ late_met es fs gs e before behind k b h f g u v = joined_met (values_of es) (val
   where
     is_below : (p : ℕ × Extent) → p.0 < e.pos → (range_contains nat_cmp Unbounded (Excluded e.pos) p.0 ≡ true) × (range_contains nat_cmp (Included e.pos) Unbounded p.0 ≡ false)
     is_below p l = let o = compared_greater e.pos p.0 l in (ap (λ o. not (is_le o)) o, ap (λ o. is_le o && not false) o)
+
     is_from : (p : ℕ × Extent) → e.pos ≤ p.0 → (range_contains nat_cmp Unbounded (Excluded e.pos) p.0 ≡ false) × (range_contains nat_cmp (Included e.pos) Unbounded p.0 ≡ true)
     is_from p l = let o = compared_le e.pos p.0 l in (ap not o, ap (λ b. b && not false) o)
+
     parts : Parts (values_of es) (values_of fs) (values_of gs) e
     parts =
         subst (λ (ys : List (ℕ × Extent)). Parts (values_of es) (values_of ys) (values_of gs) e) (sym f)
         (subst (λ (ys : List (ℕ × Extent)). Parts (values_of es) (values_of (entries_between nat_cmp Unbounded (Excluded e.pos) es)) (values_of ys) e) (sym g)
         (late_parts (λ p. range_contains nat_cmp Unbounded (Excluded e.pos) p.0) (λ p. range_contains nat_cmp (Included e.pos) Unbounded p.0) e is_below is_from 0 es k h))
+
     front : LastOf fs before → met (values_of fs) e ≡ met (option_to_list before) e
     front (inl w) = front_none (values_of fs) e (ap values_of w.0) ∙ sym (ap (λ (m : Option Extent). met (option_to_list m) e) w.1)
     front (inr w) =
         front_last (values_of fs) (values_of es) (values_of gs) (values_of w.0) w.1.1 e h parts (ap values_of w.2 ∙ values_append w.0 (w.1 ∷ []))
         ∙ sym (ap (λ (m : Option Extent). met (option_to_list m) e) w.3)
+
     back : FirstOf gs behind → met (values_of gs) e ≡ met (option_to_list behind) e
     back (inl w) = front_none (values_of gs) e (ap values_of w.0) ∙ sym (ap (λ (m : Option Extent). met (option_to_list m) e) w.1)
     back (inr w) =

@@ -95,14 +95,14 @@ lower_three : (a b c : Extent) → lower (lower (Some a) (Some b)) (Some c) ≡ 
 lower_three a b c = elim (cases_lt b.pos a.pos) [
   | inl ba ↦ elim (cases_lt c.pos b.pos) [
     | inl cb ↦ ap (λ (m : Option Extent). lower m (Some c)) (second_taken a b ba) ∙ second_taken b c cb
-      ∙ sym (ap (lower (Some a)) (second_taken b c cb) ∙ second_taken a c (omega arith))
+        ∙ sym (ap (lower (Some a)) (second_taken b c cb) ∙ second_taken a c (omega arith))
     | inr bc ↦ ap (λ (m : Option Extent). lower m (Some c)) (second_taken a b ba) ∙ first_stays b c bc
-      ∙ sym (ap (lower (Some a)) (first_stays b c bc) ∙ second_taken a b ba)
+        ∙ sym (ap (lower (Some a)) (first_stays b c bc) ∙ second_taken a b ba)
   ]
   | inr ab ↦ elim (cases_lt c.pos b.pos) [
     | inl cb ↦ ap (λ (m : Option Extent). lower m (Some c)) (first_stays a b ab) ∙ sym (ap (lower (Some a)) (second_taken b c cb))
     | inr bc ↦ ap (λ (m : Option Extent). lower m (Some c)) (first_stays a b ab) ∙ first_stays a c (omega arith)
-      ∙ sym (ap (lower (Some a)) (first_stays b c bc) ∙ first_stays a b ab)
+        ∙ sym (ap (lower (Some a)) (first_stays b c bc) ∙ first_stays a b ab)
   ]
 ]
 

@@ -240,3 +240,9 @@ same_order xs ys f a p =
     let q = IsPermutation-trans xs ys (by_position ys) p (position_moves ys) in
     stand_is_order xs (by_position ys) f q
     (position_stands ys (bytes_moved xs ys p f) (apart_moved ys xs (IsPermutation-sym xs ys p) a))
+
+-- what a sort leaves of spaces that are apart
+pub sorted_order : (xs ys : List Extent) → HaveBytes xs → AreApart xs → IsPermutation xs ys → IsNonDecreasingBy (λ (e : Extent). e.pos) ys → ys ≡ by_position xs
+sorted_order xs ys f a p s =
+    stand_is_order xs ys f p
+    (ascending_stand ys (bytes_moved xs ys p f) (ascend_from ys s) (apart_moved ys xs (IsPermutation-sym xs ys p) a) _ refl)

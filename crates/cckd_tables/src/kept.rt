@@ -129,7 +129,10 @@ impl Kept {
         if end_of(self.run.as_slice()) <= u64::from(space.pos) {
             return None;
         }
-        lower(met_in_run(self.run.as_slice(), space), met_late(&self.late, space))
+        lower(
+            met_in_run(self.run.as_slice(), space),
+            met_late(&self.late, space),
+        )
     }
 
     /// Adds a space that shares a byte with none.

@@ -1,17 +1,11 @@
 //! The two-level tables of one image: the survey of all that they name.
 #![tactic(auto)]
 
-mod collecting;
-mod items;
-mod judging;
+mod item;
 mod kept;
-mod overlap;
-mod reading;
-mod scanning;
-mod sorting;
-mod tables;
-#[cfg(test)]
-mod tests;
+mod progress;
+mod read;
+mod surveyed;
 
 pub use cckd_base::{Extent, Layout, Misfit, Owner, ScanFault};
-pub use scanning::scan;
+pub use surveyed::{SurveyFault, Surveyed, scan, survey};

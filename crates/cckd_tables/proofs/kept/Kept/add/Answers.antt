@@ -38,7 +38,7 @@ invariant_of-self-2 c =
     let none = ap (λ (k : List Extent). met k e) c.self.view_is ∙ c.requires.unmet in
     elim c.match-insert.branch [
       | in-Ok w ↦ subst (KeepsOrder run) (sym w.in-Ok.ensures.entries)
-        (late_keeps run late _ e c.self.invariant c.requires.some none (placed_late run late e c.self.invariant c.requires.some none) before)
+          (late_keeps run late _ e c.self.invariant c.requires.some none (placed_late run late e c.self.invariant c.requires.some none) before)
       | in-Err w ↦ subst (KeepsOrder run) (sym w.in-Err.ensures.err) c.self.invariant
     ]
 
@@ -50,9 +50,9 @@ returns c =
     let none = ap (λ (k : List Extent). met k e) c.self.view_is ∙ c.requires.unmet in
     elim c.match-insert.branch [
       | in-Ok w ↦ rw w.result-is (record {
-          added = ap (λ (es : List (ℕ × Extent)). by_position (run ++ values_of es)) w.in-Ok.ensures.entries
-              ∙ late_places run late _ e c.self.invariant c.requires.some none (placed_late run late e c.self.invariant c.requires.some none)
-              ∙ ap (placed_among e) c.self.view_is;
-        })
+        added = ap (λ (es : List (ℕ × Extent)). by_position (run ++ values_of es)) w.in-Ok.ensures.entries
+            ∙ late_places run late _ e c.self.invariant c.requires.some none (placed_late run late e c.self.invariant c.requires.some none)
+            ∙ ap (placed_among e) c.self.view_is;
+      })
       | in-Err w ↦ rw w.result-is (record { added = tt })
     ]
