@@ -1,7 +1,6 @@
 -- A survey without misfits: each item is kept, and no two kept spaces share a byte.
 use Rattle.std.proofs.Common.{◌≡◌, ◌⊎◌, ℕ, ◌+◌, ◌-◌, ◌*◌, ◌<◌, ◌≤◌, ◌&&◌, min, Bool, true, false, cond, List, [], ◌∷◌, ◌++◌, length, Option, Some, None, Ok, Err, refl, sym, ◌∙◌, ap, subst, inl, inr, arith, append-nil, append_assoc}
 use Rattle.std.specs.Prelude.{nat_lt}
-use Rattle.std.specs.List.{range_with_len}
 use Rattle.std.specs.Option.{option_map, option_to_list, is_none}
 use Rattle.std.proofs.lemmas.Bool.{cond_both}
 use Rattle.cckd_base.specs.declared.geometry.Layout.{Layout}
@@ -61,15 +60,15 @@ and_turned false false h = refl
 pairwise_more : (kept : List Extent) (s : Extent) → ArePairwise kept → met kept s ≡ None → ArePairwise (kept ++ s ∷ [])
 pairwise_more kept s p none a b ha hb = elim (in_split a kept (s ∷ []) ha) [
   | inl x ↦ elim (in_split b kept (s ∷ []) hb) [
-      | inl y ↦ p a b x y
-      | inr (inl e) ↦ inr (subst (λ (z : Extent). share_a_byte a z ≡ false) e (unmet_each kept s a none x))
-      | inr (inr n) ↦ absurd n
-    ]
+    | inl y ↦ p a b x y
+    | inr (inl e) ↦ inr (subst (λ (z : Extent). share_a_byte a z ≡ false) e (unmet_each kept s a none x))
+    | inr (inr n) ↦ absurd n
+  ]
   | inr (inl e) ↦ elim (in_split b kept (s ∷ []) hb) [
-      | inl y ↦ inr (subst (λ (z : Extent). share_a_byte z b ≡ false) e (and_turned (nat_lt b.pos (s.pos + s.size)) (nat_lt s.pos (b.pos + b.size)) (unmet_each kept s b none y)))
-      | inr (inl f) ↦ inl (sym e ∙ f)
-      | inr (inr n) ↦ absurd n
-    ]
+    | inl y ↦ inr (subst (λ (z : Extent). share_a_byte z b ≡ false) e (and_turned (nat_lt b.pos (s.pos + s.size)) (nat_lt s.pos (b.pos + b.size)) (unmet_each kept s b none y)))
+    | inr (inl f) ↦ inl (sym e ∙ f)
+    | inr (inr n) ↦ absurd n
+  ]
   | inr (inr n) ↦ absurd n
 ]
 

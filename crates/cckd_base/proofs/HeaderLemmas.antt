@@ -1,12 +1,12 @@
 -- What headers without a fault say of the layout and of the file's length.
-use Rattle.std.proofs.Common.{◌≡◌, ⊎_elim, ℕ, ◌+◌, ◌<◌, ◌≤◌, nat_lt, Bool, true, false, ◌||◌, not, List, [], ◌∷◌, length, Option, Some, None, cond, refl, sym, ◌∙◌, ap, subst, arith}
+use Rattle.std.proofs.Common.{◌≡◌, ⊎_elim, ℕ, ◌≤◌, nat_lt, Bool, true, false, List, [], ◌∷◌, length, None, refl, sym, ◌∙◌, ap, subst}
 use Rattle.std.specs.List.{list_any}
 use Rattle.std.specs.Str.{bytes_eq}
-use Rattle.std.proofs.lemmas.Bool.{false≢true, or_parts, or_cases, not-false, ltb-false, eqb-true, ltb-true}
+use Rattle.std.proofs.lemmas.Bool.{false≢true, or_parts, or_cases, not-false, ltb-false, ltb-true}
 use Rattle.std.proofs.lemmas.Slice.Eq.{bytes_eq-Decides}
 use Rattle.cckd_base.specs.declared.geometry.Layout.{Layout}
 use Rattle.cckd_base.specs.declared.fault.HeaderFault.{HeaderFault}
-use Rattle.cckd_base.specs.Geometry.{track_count, group_count, area_of, format_limit, IsGeometry, IsLayout}
+use Rattle.cckd_base.specs.Geometry.{track_count, group_count, area_of, format_limit, IsLayout}
 use Rattle.cckd_base.specs.Header.{base_identifier, shadow_identifier, identifier, headers_of, judged_in, header_cases, first_case, header_fault, header_geometry, header_null_format, layout_of, is_outside}
 use Rattle.cckd_base.specs.Image.{IsHeaded}
 

@@ -1,23 +1,22 @@
 -- An image pair by pair, and its survey: each says the other.
-use Rattle.std.proofs.Common.{◌≡◌, ◌≢◌, ◌⊎◌, ℕ, ◌+◌, ◌-◌, ◌*◌, ◌/◌, ◌%◌, ◌<◌, ◌≤◌, ◌&&◌, Bool, true, false, cond, List, [], ◌∷◌, ◌++◌, length, map, Option, Some, None, Ok, Err, refl, sym, ◌∙◌, ap, subst, inl, inr, arith}
+use Rattle.std.proofs.Common.{◌≡◌, ◌≢◌, ◌⊎◌, ℕ, ◌+◌, ◌-◌, ◌*◌, ◌/◌, ◌<◌, ◌≤◌, ◌&&◌, min, Bool, true, false, List, [], ◌∷◌, length, Option, Some, None, Ok, refl, sym, ◌∙◌, ap, subst, inl, inr, arith}
 use Rattle.std.specs.Prelude.{nat_le, nat_lt}
-use Rattle.std.proofs.lemmas.Bool.{cond_both, cases_lt, lt-ltb, both_ways, cond-true}
+use Rattle.std.proofs.lemmas.Bool.{cond_both, cases_Bool, cases_lt, lt-ltb, both_ways, cond-true, cond-false}
 use Rattle.cckd_base.specs.declared.geometry.Layout.{Layout}
 use Rattle.cckd_base.specs.declared.entry.L2Entry.{L2Entry}
 use Rattle.cckd_base.specs.declared.space.Extent.{Extent}
-use Rattle.cckd_base.specs.declared.space.Owner.{Owner}
-use Rattle.cckd_base.specs.declared.space.Owner.TheVariants.{Header, Table, Track}
+use Rattle.cckd_base.specs.declared.space.Owner.TheVariants.{Table, Track}
 use Rattle.cckd_base.specs.declared.misfit.Misfit.{Misfit}
 use Rattle.cckd_base.specs.declared.misfit.Misfit.TheVariants.{BadEntry, ParentInBase}
-use Rattle.cckd_base.specs.Geometry.{track_count, group_count, area_of, is_null_format, IsLayout}
-use Rattle.cckd_base.specs.Entry.{see_parent, word_at, entry_at, entry_by_word, entry_in_table, null_entry, parent_entry}
+use Rattle.cckd_base.specs.Geometry.{track_count, area_of, is_null_format, IsLayout}
+use Rattle.cckd_base.specs.Entry.{word_at, entry_at, entry_by_word, entry_in_table, null_entry}
 use Rattle.cckd_base.specs.Misfit.{table_misfit, entry_misfit}
-use Rattle.cckd_base.specs.Survey.{Item, header_space, table_space, track_space, space_at, item_of, table_item, entry_item, share_a_byte, kept_after, table_items, entry_items, kept_tables, items, placed_among, by_position, used_spaces, HasNoMisfit}
+use Rattle.cckd_base.specs.Survey.{Item, header_space, table_space, track_space, space_at, item_of, table_item, entry_item, share_a_byte, kept_after, table_items, tracks_of, entry_items_in, entry_items, kept_tables, items, placed_among, by_position, used_spaces, HasNoMisfit}
 use Rattle.cckd_base.specs.Image.{IsPlace, ShareNoByte, IsSnug, IsImage}
-use Rattle.cckd_base.proofs.MemberLemmas.{In, in_left, in_right}
-use Rattle.cckd_base.proofs.CleanLemmas.{IsClean, ArePairwise, clean_parts, pairwise_kept, still_kept, item_kept, no_fault, table_in, entry_in, surveyed_clean}
+use Rattle.cckd_base.proofs.MemberLemmas.{In, in_left, in_right, in_split, range_in, flat_in}
+use Rattle.cckd_base.proofs.CleanLemmas.{ArePairwise, clean_parts, pairwise_kept, still_kept, item_kept, no_fault, table_in, entry_in, surveyed_clean, spaces, all_kept, in_spaces}
 use Rattle.cckd_base.proofs.OrderlyLemmas.{key, IsGood, IsGoodTable, survey_of}
-use Rattle.cckd_base.proofs.PlaceLemmas.{place_or_not, turned, tested_apart, table_inside, shadow_of, stored_inside, by_zero, by_parent, by_table, item_is, item_none}
+use Rattle.cckd_base.proofs.PlaceLemmas.{place_or_not, turned, tested_apart, table_inside, shadow_of, stored_inside, by_zero, by_parent, by_table, item_is, item_none, item_named}
 
 -- ---- from the survey to the pairs
 
@@ -29,12 +28,12 @@ surveyed_apart l file a b clean ha hb differ =
     elim (pairwise_kept (header_space l.groups ∷ []) (items l file) first c a b (item_kept (header_space l.groups ∷ []) (items l file) a c ha) (item_kept (header_space l.groups ∷ []) (items l file) b c hb)) [
       | inl same ↦ absurd (differ same)
       | inr sharing ↦ elim (cases_lt a.pos (b.pos + b.size)) [
-          | inr ge ↦ inr ge
-          | inl lt ↦ elim (cases_lt b.pos (a.pos + a.size)) [
-              | inr ge ↦ inl ge
-              | inl also ↦ absurd (both_ways (share_a_byte a b) sharing (both (nat_lt a.pos (b.pos + b.size)) (nat_lt b.pos (a.pos + a.size)) (lt-ltb a.pos (b.pos + b.size) lt) (lt-ltb b.pos (a.pos + a.size) also)))
-            ]
+        | inr ge ↦ inr ge
+        | inl lt ↦ elim (cases_lt b.pos (a.pos + a.size)) [
+          | inr ge ↦ inl ge
+          | inl also ↦ absurd (both_ways (share_a_byte a b) sharing (both (nat_lt a.pos (b.pos + b.size)) (nat_lt b.pos (a.pos + a.size)) (lt-ltb a.pos (b.pos + b.size) lt) (lt-ltb b.pos (a.pos + a.size) also)))
         ]
+      ]
     ]
   where
     both : (x y : Bool) → x ≡ true → y ≡ true → (x && y) ≡ true
@@ -187,9 +186,12 @@ module _ (l : Layout) (file : List ℕ) (image : IsImage l file) where
       let e : entry_at l file t ≡ entry_in_table l file w t = ap (λ (h : ℕ). entry_by_word l file (word_at l file h) t) mine ∙ by_table l file w t place in
       let known : IsGood (IsNamed l file) l.groups (1 + l.groups + t) (entry_item l (length file) t (entry_at l file t)) =
       elim (place_or_not (entry_at l file t).pos) [
-        | inl at ↦ inr (track_space (length file) t (entry_at l file t),
-            item_is (entry_misfit l (length file) t (entry_at l file t)) (entry_at l file t).pos (track_space (length file) t (entry_at l file t)) (image.entries t there) at,
-            inr (inr (t, there, at, refl)), refl)
+        | inl at ↦ inr (
+          track_space (length file) t (entry_at l file t),
+          item_is (entry_misfit l (length file) t (entry_at l file t)) (entry_at l file t).pos (track_space (length file) t (entry_at l file t)) (image.entries t there) at,
+          inr (inr (t, there, at, refl)),
+          refl,
+        )
         | inr none ↦ inl (item_none (entry_misfit l (length file) t (entry_at l file t)) (entry_at l file t).pos (track_space (length file) t (entry_at l file t)) (image.entries t there) none)
       ] in
       subst (λ (x : L2Entry). IsGood (IsNamed l file) l.groups (1 + l.groups + t) (entry_item l (length file) t x)) e known
@@ -198,10 +200,12 @@ module _ (l : Layout) (file : List ℕ) (image : IsImage l file) where
   good_table g group =
       let w = word_at l file g in
       elim (place_or_not w) [
-        | inl place ↦ inr (w,
-            item_is (table_misfit l (length file) g w) w (table_space g w) (image.words g group) place,
-            inr (inl (g, group, place, refl)),
-            λ t low high there. good_entry g t group place low high there)
+        | inl place ↦ inr (
+          w,
+          item_is (table_misfit l (length file) g w) w (table_space g w) (image.words g group) place,
+          inr (inl (g, group, place, refl)),
+          λ t low high there. good_entry g t group place low high there,
+        )
         | inr none ↦ inl (item_none (table_misfit l (length file) g w) w (table_space g w) (image.words g group) none)
       ]
 
@@ -244,3 +248,68 @@ named_used l file e layout clean (inr (inl g)) = subst (λ (x : Extent). In x (u
     (surveyed_used l file (table_space g.0 (word_at l file g.0)) clean (table_there l file clean g.0 g.1 g.2))
 named_used l file e layout clean (inr (inr t)) = subst (λ (x : Extent). In x (used_spaces l file)) (sym t.3)
     (surveyed_used l file (track_space (length file) t.0 (entry_at l file t.0)) clean (track_there l file layout clean t.0 t.1 t.2))
+
+placed_in : (e s : Extent) (es : List Extent) → In e (placed_among s es) → (s ≡ e) ⊎ In e es
+placed_in e s [] h = h
+placed_in e s (x ∷ es) h = elim (cases_Bool (nat_le s.pos x.pos)) [
+  | inl first ↦ subst (In e) (cond-true (nat_le s.pos x.pos) (s ∷ x ∷ es) (x ∷ placed_among s es) first) h
+  | inr later ↦ elim (subst (In e) (cond-false (nat_le s.pos x.pos) (s ∷ x ∷ es) (x ∷ placed_among s es) later) h) [
+    | inl here ↦ inr (inl here)
+    | inr m ↦ elim (placed_in e s es m) [ inl same ↦ inl same | inr k ↦ inr (inr k) ]
+  ]
+]
+
+position_in : (e : Extent) (es : List Extent) → In e (by_position es) → In e es
+position_in e [] h = h
+position_in e (x ∷ es) h = elim (placed_in e x (by_position es) h) [ inl same ↦ inl same | inr m ↦ inr (position_in e es m) ]
+
+module _ (l : Layout) (file : List ℕ) (clean : HasNoMisfit l file) where
+  table_named : (e : Extent) → In (Ok (Some e)) (table_items l file)
+      → (g : ℕ) × (g < l.groups) × IsPlace (word_at l file g) × (e ≡ table_space g (word_at l file g))
+  unfolding table_items
+  table_named e m =
+      let r = range_in (λ k. table_item l (length file) k (word_at l file k)) 0 l.groups (Ok (Some e)) m in
+      let n = item_named (table_misfit l (length file) r.0 (word_at l file r.0)) (word_at l file r.0) (table_space r.0 (word_at l file r.0)) e r.3 in
+      (r.0, omega (arith, r.2), n.0, sym n.1)
+
+  track_named : (g t : ℕ) (e : Extent) → IsPlace (word_at l file g) → 256 * g ≤ t → t < 256 * g + 256 → t < track_count l.geo
+      → entry_item l (length file) t (entry_in_table l file (word_at l file g) t) ≡ Ok (Some e)
+      → IsPlace (entry_at l file t).pos × (e ≡ track_space (length file) t (entry_at l file t))
+  track_named g t e place low high there found =
+      let w = word_at l file g in
+      let mine : t / 256 ≡ g = omega (arith, low, high) in
+      let is : entry_at l file t ≡ entry_in_table l file w t = ap (λ (h : ℕ). entry_by_word l file (word_at l file h) t) mine ∙ by_table l file w t place in
+      let n = item_named (entry_misfit l (length file) t (entry_in_table l file w t)) (entry_in_table l file w t).pos (track_space (length file) t (entry_in_table l file w t)) e found in
+      (subst (λ (x : L2Entry). IsPlace x.pos) (sym is) n.0, sym n.1 ∙ ap (track_space (length file) t) (sym is))
+
+  entry_named : (e : Extent) → In (Ok (Some e)) (entry_items l file)
+      → (t : ℕ) × (t < track_count l.geo) × IsPlace (entry_at l file t).pos × (e ≡ track_space (length file) t (entry_at l file t))
+  unfolding entry_items tracks_of
+  entry_named e m =
+      let c = clean_parts (header_space l.groups ∷ []) (table_items l file) (entry_items l file) (surveyed_clean l file clean) in
+      let f = flat_in (entry_items_in l file) (Ok (Some e)) (kept_tables l file) m in
+      let kept : In f.0 (header_space l.groups ∷ spaces (table_items l file)) = subst (In f.0) (all_kept (header_space l.groups ∷ []) (table_items l file) c.0) f.1 in
+      elim kept [
+        | inl header ↦ absurd (subst (λ (x : Extent). In (Ok (Some e)) (entry_items_in l file x)) (sym header) f.2)
+        | inr table ↦
+            let g = table_named f.0 (in_spaces f.0 (table_items l file) table) in
+            let there = subst (λ (x : Extent). In (Ok (Some e)) (entry_items_in l file x)) g.3 f.2 in
+            let r = range_in (λ k. entry_item l (length file) k (entry_in_table l file (word_at l file g.0) k)) (256 * g.0) (min 256 (track_count l.geo - 256 * g.0)) (Ok (Some e)) there in
+            let n = track_named g.0 r.0 e g.2 r.1 (omega (arith, r.2)) (omega (arith, r.1, r.2)) r.3 in
+            (r.0, omega (arith, r.1, r.2), n.0, n.1)
+      ]
+
+  -- each used space is one that the image names
+  pub used_named : (e : Extent) → In e (used_spaces l file) → IsNamed l file e
+  unfolding used_spaces
+  used_named e m =
+      let c = surveyed_clean l file clean in
+      let kept : In e (header_space l.groups ∷ spaces (items l file)) =
+      subst (In e) (all_kept (header_space l.groups ∷ []) (items l file) c) (position_in e (kept_after (header_space l.groups ∷ []) (items l file)) m) in
+      elim kept [
+        | inl header ↦ inl (sym header)
+        | inr space ↦ elim (in_split (Ok (Some e)) (table_items l file) (entry_items l file) (in_spaces e (items l file) space)) [
+          | inl table ↦ inr (inl (table_named e table))
+          | inr track ↦ inr (inr (entry_named e track))
+        ]
+      ]

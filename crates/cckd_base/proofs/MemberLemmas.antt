@@ -33,3 +33,18 @@ in_flat f x y (z ∷ zs) h k = elim h [
   | inl e ↦ in_left y (f z) (flat_map f zs) (subst (λ u. In y (f u)) (sym e) k)
   | inr m ↦ in_right y (f z) (flat_map f zs) (in_flat f x y zs m k)
 ]
+
+-- a member of a mapped range is that of a number, and one of a flat list is one of a part
+pub range_in : {X : Type 0} (f : ℕ → X) (a n : ℕ) (x : X) → In x (map f (range_with_len a n)) → (k : ℕ) × (a ≤ k) × (k < a + n) × (f k ≡ x)
+range_in f a zero x h = absurd h
+range_in f a (suc n) x h = elim h [
+  | inl e ↦ (a, omega arith, omega arith, e)
+  | inr m ↦ let r = range_in f (a + 1) n x m in (r.0, omega (arith, r.1), omega (arith, r.2), r.3)
+]
+
+pub flat_in : {X Y : Type 0} (f : X → List Y) (y : Y) (xs : List X) → In y (flat_map f xs) → (x : X) × In x xs × In y (f x)
+flat_in f y [] h = absurd h
+flat_in f y (x ∷ xs) h = elim (in_split y (f x) (flat_map f xs) h) [
+  | inl here ↦ (x, inl refl, here)
+  | inr later ↦ let r = flat_in f y xs later in (r.0, inr r.1, r.2)
+]

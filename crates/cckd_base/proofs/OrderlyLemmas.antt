@@ -1,5 +1,5 @@
 -- Where each item can be, and no two spaces share a byte, the survey has no misfit.
-use Rattle.std.proofs.Common.{◌≡◌, ◌⊎◌, ℕ, zero, suc, ◌+◌, ◌-◌, ◌*◌, ◌<◌, ◌≤◌, min, Bool, true, false, cond, List, [], ◌∷◌, ◌++◌, length, map, Option, Some, None, Ok, Err, refl, sym, ◌∙◌, ap, subst, inl, inr, arith}
+use Rattle.std.proofs.Common.{◌≡◌, ◌⊎◌, ℕ, zero, suc, ◌+◌, ◌-◌, ◌*◌, ◌<◌, ◌≤◌, min, Bool, false, cond, List, [], ◌∷◌, ◌++◌, length, map, Some, None, Ok, Err, refl, sym, ◌∙◌, ap, subst, inl, inr, arith}
 use Rattle.std.specs.List.{flat_map, range_with_len}
 use Rattle.std.specs.Option.{option_map}
 use Rattle.cckd_base.specs.declared.geometry.Layout.{Layout}
@@ -79,10 +79,11 @@ orderly_clean Known groups sep kept n [] m before h = tt
 orderly_clean Known groups sep kept n (Err x ∷ is) m before h = absurd h
 orderly_clean Known groups sep kept n (Ok None ∷ is) m before h = (refl, orderly_clean Known groups sep kept n is m before h)
 orderly_clean Known groups sep kept n (Ok (Some s) ∷ is) m before h =
-    let none : met kept s ≡ None = met_none kept s (λ k has. let b = before k has in sep k s b.0 h.0 (omega (arith, b.1, h.1))) in
-    (ap (option_map (λ first. Overlap first s)) none,
-    subst (λ (ks : List Extent). IsClean ks is) (sym (kept_one kept s none))
-    (orderly_clean Known groups sep (kept ++ s ∷ []) (key groups s + 1) is m (λ k has. before_more k has) h.2))
+    let none : met kept s ≡ None = met_none kept s (λ k has. let b = before k has in sep k s b.0 h.0 (omega (arith, b.1, h.1))) in (
+      ap (option_map (λ first. Overlap first s)) none,
+      subst (λ (ks : List Extent). IsClean ks is) (sym (kept_one kept s none))
+          (orderly_clean Known groups sep (kept ++ s ∷ []) (key groups s + 1) is m (λ k has. before_more k has) h.2),
+    )
   where
     before_more : (k : Extent) → In k (kept ++ s ∷ []) → Known k × (key groups k < key groups s + 1)
     before_more k has = elim (in_split_last s kept k has) [
@@ -138,11 +139,14 @@ entries_orderly Known l file good clean =
     (flat_range Known l.groups c F (λ g. table_item l (length file) g (word_at l file g)) 0 l.groups
     (λ g low high. elim (good g (omega (arith, high))) [
       | inl e ↦ inl e
-      | inr h ↦ inr (table_space g h.0, h.1,
-          orderly_to Known l.groups (c + 256 * g) (map (λ t. entry_item l (length file) t (entry_in_table l file h.0 t)) (range_with_len (256 * g) (min 256 (track_count l.geo - 256 * g))))
-          (c + 256 * g + min 256 (track_count l.geo - 256 * g)) (c + 256 * (g + 1)) (omega arith)
-          (orderly_range Known l.groups c (λ t. entry_item l (length file) t (entry_in_table l file h.0 t)) (256 * g) (min 256 (track_count l.geo - 256 * g))
-          (λ t a b. h.3 t a (omega (arith, b)) (omega (arith, a, b)))))
+      | inr h ↦ inr (
+        table_space g h.0,
+        h.1,
+        orderly_to Known l.groups (c + 256 * g) (map (λ t. entry_item l (length file) t (entry_in_table l file h.0 t)) (range_with_len (256 * g) (min 256 (track_count l.geo - 256 * g))))
+            (c + 256 * g + min 256 (track_count l.geo - 256 * g)) (c + 256 * (g + 1)) (omega arith)
+            (orderly_range Known l.groups c (λ t. entry_item l (length file) t (entry_in_table l file h.0 t)) (256 * g) (min 256 (track_count l.geo - 256 * g))
+            (λ t a b. h.3 t a (omega (arith, b)) (omega (arith, a, b)))),
+      )
     ]))))
 
 -- so nothing is wrong with the image

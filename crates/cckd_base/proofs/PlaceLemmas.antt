@@ -1,5 +1,5 @@
 -- Words and entries one by one: what each names, and what it says where it can be.
-use Rattle.std.proofs.Common.{◌≡◌, ◌≢◌, ◌⊎◌, ℕ, ◌+◌, ◌*◌, ◌/◌, ◌%◌, ◌<◌, ◌≤◌, ◌==◌, ◌&&◌, ◌||◌, Bool, true, false, cond, List, length, drop, get_or, Option, Some, None, Ok, refl, sym, ◌∙◌, ap, inl, inr, arith}
+use Rattle.std.proofs.Common.{◌≡◌, ◌≢◌, ◌⊎◌, ℕ, ◌+◌, ◌*◌, ◌%◌, ◌<◌, ◌≤◌, ◌==◌, ◌&&◌, ◌||◌, Bool, true, false, cond, List, length, drop, get_or, Option, Some, None, Ok, refl, sym, ◌∙◌, ap, inl, inr, arith}
 use Rattle.std.specs.Prelude.{nat_lt}
 use Rattle.std.proofs.lemmas.Bool.{cases_eq, cond-true, cond-false, eq-eqb, ne_eqb, or_parts, ltb-false, le-ltb, eqb-false}
 use Rattle.std.proofs.lemmas.List.{ext_get_or, get_or-take, get_or-drop, length-take, length-drop}
@@ -22,9 +22,9 @@ pub place_or_not : (pos : ℕ) → IsPlace pos ⊎ ((pos ≡ 0) ⊎ (pos ≡ see
 place_or_not pos = elim (cases_eq pos 0) [
   | inl zero ↦ inr (inl zero)
   | inr some ↦ elim (cases_eq pos see_parent) [
-      | inl parent ↦ inr (inr parent)
-      | inr other ↦ inl (some, other)
-    ]
+    | inl parent ↦ inr (inr parent)
+    | inr other ↦ inl (some, other)
+  ]
 ]
 
 -- ---- bytes that are not shared
@@ -242,3 +242,11 @@ space_none pos s (inr parent) =
 -- the item of what can be and names none
 pub item_none : (o : Option Misfit) (pos : ℕ) (s : Extent) → o ≡ None → (pos ≡ 0) ⊎ (pos ≡ see_parent) → item_of o (space_at pos s) ≡ Ok None
 item_none o pos s e none = ap (λ (x : Option Misfit). item_of x (space_at pos s)) e ∙ ap (λ (x : Option Extent). item_of None x) (space_none pos s none)
+
+-- an item with a space comes of what names it
+pub item_named : (o : Option Misfit) (pos : ℕ) (s e : Extent) → item_of o (space_at pos s) ≡ Ok (Some e) → IsPlace pos × (s ≡ e)
+item_named (Some m) pos s e h = absurd (cc h)
+item_named None pos s e h = elim (place_or_not pos) [
+  | inl place ↦ let is = space_is pos s place in (place, let k = ap (λ (x : Option Extent). item_of None x) (sym is) ∙ h in cc k)
+  | inr none ↦ let is = space_none pos s none in absurd (let k = ap (λ (x : Option Extent). item_of None x) (sym is) ∙ h in cc k)
+]

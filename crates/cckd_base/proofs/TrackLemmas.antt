@@ -10,7 +10,7 @@ use Rattle.std.proofs.lemmas.Nat.{from_be_bytes-to_be_bytes_2, div_below, mod_be
 use Rattle.std.proofs.lemmas.Slice.Eq.{bytes_eq-Decides}
 use Rattle.cckd_base.specs.declared.geometry.Geometry.{Geometry}
 use Rattle.cckd_base.specs.declared.fault.TrackFault.{TrackFault}
-use Rattle.cckd_base.specs.declared.fault.TrackFault.TheVariants.{TooLong, NoEnd, Compressed, WrongTrack}
+use Rattle.cckd_base.specs.declared.fault.TrackFault.TheVariants.{NoEnd, Compressed, WrongTrack}
 use Rattle.cckd_base.specs.Geometry.{track_count, address_of, IsGeometry, IsNullFormat}
 use Rattle.cckd_base.specs.Track.{CountKeyData, address_bytes, spelled_track, spelling, end_mark, FitsCount, IsRecordZero, IsUserRecord, AreRecords, IsTrack, null_record_zero, null_record_one, null_records, null_track, body_length, may_stand, records_fault, size_fault, home_fault, track_fault, track_value, OkUnless}
 use Rattle.cckd_base.proofs.RecordLemmas.{IsCount, count_stands, verdict_stands, record_passed}

@@ -1,5 +1,5 @@
 -- A CCKD image as a whole: sound, snug, and each table and each stored track in a place of its own.
-use Rattle.std.specs.Prelude.{◌≡◌, ◌≢◌, ◌⊎◌, ℕ, ◌+◌, ◌<◌, ◌≤◌, List, [], ◌∷◌, length, None}
+use Rattle.std.specs.Prelude.{◌≡◌, ◌≢◌, ◌⊎◌, ℕ, ◌+◌, ◌<◌, ◌≤◌, List, length, None}
 use Rattle.cckd_base.specs.declared.geometry.Layout.{Layout}
 use Rattle.cckd_base.specs.Geometry.{track_count, area_of}
 use Rattle.cckd_base.specs.Entry.{see_parent, word_at, entry_at}
