@@ -52,9 +52,9 @@ fn lower(a: Option<Extent>, b: Option<Extent>) -> Option<Extent>
     ensures { result ≡ lower a b }
 {
     match (a, b) {
-        (Some(a), Some(b)) => if b.pos < a.pos { Some(b) } else { Some(a) },
-        (Some(a), None) => Some(a),
+        (Some(a), Some(b)) if b.pos < a.pos => Some(b),
         (None, b) => b,
+        (a, _) => a,
     }
 }
 

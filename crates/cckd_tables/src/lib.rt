@@ -6,6 +6,8 @@ mod kept;
 mod progress;
 mod read;
 mod surveyed;
+#[cfg(test)]
+mod tests;
 
 pub use cckd_base::{Extent, Layout, Misfit, Owner, ScanFault};
 pub use surveyed::{SurveyFault, Surveyed, scan, survey};
