@@ -1,5 +1,5 @@
 -- What the spaces of items are like.
-use Rattle.std.proofs.Common.{◌≡◌, ℕ, zero, suc, ◌+◌, ◌-◌, ◌*◌, ◌%◌, ◌<◌, ◌≤◌, ◌==◌, nat_lt, Bool, true, false, cond, ◌||◌, List, [], ◌∷◌, ◌++◌, map, Some, None, Ok, Err, refl, sym, subst, arith}
+use Rattle.std.proofs.Common.{◌≡◌, ℕ, zero, suc, ◌+◌, ◌*◌, ◌<◌, ◌≤◌, ◌==◌, nat_lt, Bool, true, false, cond, ◌||◌, List, [], ◌∷◌, ◌++◌, map, Some, None, Ok, Err, refl, sym, subst, arith}
 use Rattle.std.specs.List.{range_with_len, AllByRecursion}
 use Rattle.std.specs.Option.{is_none}
 use Rattle.std.specs.Int.{w32}
@@ -11,8 +11,8 @@ use Rattle.cckd_base.specs.declared.space.Owner.TheVariants.{Table, Track}
 use Rattle.cckd_base.specs.declared.misfit.Misfit.{Misfit}
 use Rattle.cckd_base.specs.declared.misfit.Misfit.TheVariants.{BadTable, BadEntry, ParentInBase}
 use Rattle.cckd_base.specs.Geometry.{is_null_format, area_of}
-use Rattle.cckd_base.specs.Numbers.{number_at, bytes_at}
-use Rattle.cckd_base.specs.Entry.{see_parent, entry_of}
+use Rattle.cckd_base.specs.Numbers.{number_at}
+use Rattle.cckd_base.specs.Entry.{see_parent}
 use Rattle.cckd_base.specs.Misfit.{is_misplaced, is_missized}
 use Rattle.cckd_base.specs.Survey.{Item, item_of, table_item, entry_item, table_space, track_space, header_space, met, kept_with, kept_after}
 use Rattle.cckd_tables.specs.Inside.{items_of_words, IsFormed, HasFormed, IsTableSpace, AreTableSpaces}

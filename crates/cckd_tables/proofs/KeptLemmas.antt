@@ -9,15 +9,14 @@ use Rattle.std.specs.declared.cmp.Ordering.TheVariants.{Less, Equal, Greater}
 use Rattle.std.specs.BTreeMap.{insert_entry}
 use Rattle.std.specs.BTreeMap.Range.{range_contains, entries_between}
 use Rattle.std.specs.List.Sorted.{IsNonDecreasingBy}
-use Rattle.std.specs.declared.ops.Bound.{Bound}
 use Rattle.std.specs.declared.ops.Bound.TheVariants.{Included, Excluded, Unbounded}
-use Rattle.std.proofs.lemmas.Bool.{le-leb, lt-leb, lt-ltb, le-ltb, and_parts, and_from, cond-true, cond-false, cond_both, cases_lt, cases_Bool, ne_eqb}
-use Rattle.std.proofs.lemmas.List.{append-nil, take-append-drop, take_more, drop_more}
-use Rattle.std.proofs.lemmas.List.Sorted.{IsPermutation-refl, IsPermutation-sym, IsPermutation-trans, IsPermutation-append_right, IsPermutation-append_comm, IsPermutation-middle, IsPermutation-to_front}
+use Rattle.std.proofs.lemmas.Bool.{le-leb, lt-leb, lt-ltb, le-ltb, and_parts, and_from, cond-true, cond-false, cases_lt, cases_Bool, ne_eqb}
+use Rattle.std.proofs.lemmas.List.{take-append-drop, take_more, drop_more}
+use Rattle.std.proofs.lemmas.List.Sorted.{IsPermutation-refl, IsPermutation-sym, IsPermutation-trans, IsPermutation-append_right, IsPermutation-middle, IsPermutation-to_front}
 use Rattle.cckd_base.specs.declared.space.Extent.{Extent}
 use Rattle.cckd_base.specs.Survey.{share_a_byte, lower, met, placed_among, by_position}
 use Rattle.cckd_tables.specs.Kept.{AreApart, HaveBytes, stand_apart, end_of, AreKeyed, KeepsOrder}
-use Rattle.cckd_tables.proofs.MeetLemmas.{met_append, met_cons, met_by_position, none_before, none_behind, lowest_stays, lower_none, share_not, share_none, apart_more, hit}
+use Rattle.cckd_tables.proofs.MeetLemmas.{met_append, met_cons, met_by_position, none_before, none_behind, lowest_stays, share_not, apart_more, hit}
 use Rattle.cckd_tables.proofs.OrderLemmas.{stand_parts, stand_from, all_between, placed_moves, covers_moved, apart_moved, stand_is_order, position_stands, same_order, apart_in_order}
 
 all_append : (P : Extent → Type 0) (xs ys : List Extent) → AllByRecursion P xs → AllByRecursion P ys → AllByRecursion P (xs ++ ys)

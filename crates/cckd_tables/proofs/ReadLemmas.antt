@@ -1,7 +1,7 @@
 -- What the parts of a survey do to what a stage shows, one after the other.
 use Rattle.std.proofs.Common.{Ok, ◌≡◌, Result, ◌∙◌, T, subst}
 use Rattle.cckd_shelf.specs.declared.fault.Faults.{Faults}
-use Rattle.cckd_shelf.specs.Seen.{Seen, Stays}
+use Rattle.cckd_shelf.specs.Seen.{Seen}
 use Rattle.cckd_tables.specs.declared.surveyed.SurveyFault.{SurveyFault}
 use Rattle.cckd_tables.specs.Scan.{OnlyReads, CountsReads}
 

@@ -1,5 +1,5 @@
 -- The survey of an image, from what was taken.
-use Rattle.std.proofs.Common.{◌≡◌, ℕ, ◌+◌, ◌≤◌, List, [], ◌∷◌, ◌++◌, nat_le, Option, Some, None, Ok, Err, refl, sym, ◌∙◌, ap, subst, arith}
+use Rattle.std.proofs.Common.{◌≡◌, ℕ, List, [], ◌∷◌, ◌++◌, nat_le, Some, None, Ok, Err, refl, sym, ◌∙◌, ap, subst, arith}
 use Rattle.std.specs.Prelude.{Vec}
 use Rattle.std.specs.List.{flat_map}
 use Rattle.std.specs.Option.{is_none}
@@ -7,9 +7,9 @@ use Rattle.std.proofs.lemmas.Bool.{cond-true, cond_both, le-leb}
 use Rattle.cckd_base.specs.declared.geometry.Layout.{Layout}
 use Rattle.cckd_base.specs.declared.space.Extent.{Extent}
 use Rattle.cckd_base.specs.declared.misfit.Misfit.{Misfit}
-use Rattle.cckd_base.specs.Survey.{Item, met, kept_with, kept_after, misfits_after, placed_among, by_position, header_space, table_items, entry_items, entry_items_in, items, misfits, used_spaces}
+use Rattle.cckd_base.specs.Survey.{Item, met, kept_after, misfits_after, placed_among, by_position, header_space, table_items, entry_items, entry_items_in, items, misfits, used_spaces}
 use Rattle.cckd_tables.specs.declared.progress.Progress.{Progress}
-use Rattle.cckd_tables.specs.Inside.{AreFormed, IsUnderWay, IsHeaded, HasTaken, Takes, TakesSome}
+use Rattle.cckd_tables.specs.Inside.{AreFormed, IsUnderWay, IsHeaded, HasTaken, Takes}
 use Rattle.cckd_tables.specs.Kept.{stand_apart}
 use Rattle.cckd_tables.specs.declared.surveyed.Surveyed.{Surveyed}
 use Rattle.cckd_tables.specs.Scan.{AreSpaces, IsSurveyOf, IsSurvey}

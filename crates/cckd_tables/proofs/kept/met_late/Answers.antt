@@ -1,5 +1,4 @@
-use Rattle.std.proofs.Common.{◌≡◌, ℕ, ◌++◌, [], ◌∷◌, List, None, Some, ◌∙◌, ap, sym, arith, ◌⊎◌, inl, inr}
-use Rattle.cckd_base.specs.declared.space.Extent.{Extent}
+use Rattle.std.proofs.Common.{◌∙◌, ap, inl, inr}
 use Rattle.cckd_base.specs.Survey.{lower}
 use Rattle.cckd_tables.proofs.KeptLemmas.{late_met, LastOf, FirstOf}
 use Rattle.cckd_tables.proofs.kept.met_late.Goals as goal

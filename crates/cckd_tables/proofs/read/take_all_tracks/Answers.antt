@@ -1,5 +1,4 @@
 use Rattle.std.proofs.Common.{get_or, sym, ◌∙◌, subst}
-use Rattle.std.specs.List.{flat_map}
 use Rattle.cckd_shelf.specs.World.{World, IsSure, file_of}
 use Rattle.cckd_base.specs.declared.space.Extent.{Extent}
 use Rattle.cckd_base.specs.declared.space.Owner.TheVariants.{Nobody}

@@ -3,8 +3,7 @@ use Rattle.std.specs.List.{flat_map}
 use Rattle.cckd_shelf.specs.Seen.{seen, Tells, Stays}
 use Rattle.cckd_shelf.specs.World.{IsSure, file_of}
 use Rattle.cckd_base.specs.Survey.{entry_items_in}
-use Rattle.cckd_tables.specs.Scan.{OnlyReads}
-use Rattle.cckd_tables.specs.Inside.{IsUnderWay, Takes, TakesSome}
+use Rattle.cckd_tables.specs.Inside.{Takes, TakesSome}
 use Rattle.cckd_tables.proofs.read.take_all_tracks.Given as goal
 
 abbrev pub invariant-loop-table : goal.invariant-loop-table

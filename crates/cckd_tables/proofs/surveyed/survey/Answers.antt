@@ -1,5 +1,3 @@
-use Rattle.std.proofs.Common.{◌∙◌, ap}
-use Rattle.cckd_base.specs.Survey.{by_position}
 use Rattle.cckd_shelf.specs.World.{file_of}
 use Rattle.cckd_tables.proofs.SurveyLemmas.{are_spaces, whole_survey}
 use Rattle.cckd_tables.proofs.surveyed.survey.Goals as goal

@@ -2,7 +2,7 @@ use Rattle.std.proofs.Common.{◌≡◌, List, [], ◌∷◌, sym, ◌∙◌, ap
 use Rattle.std.specs.List.{flat_map}
 use Rattle.cckd_shelf.specs.World.{World, IsSure, file_of}
 use Rattle.cckd_base.specs.declared.space.Extent.{Extent}
-use Rattle.cckd_base.specs.Survey.{Item, entry_items_in, kept_after, header_space}
+use Rattle.cckd_base.specs.Survey.{entry_items_in, kept_after, header_space}
 use Rattle.cckd_tables.specs.Inside.{AreTableSpaces, Takes, items_of_words}
 use Rattle.cckd_tables.proofs.FileLemmas.{words_of_file}
 use Rattle.cckd_tables.proofs.FormedLemmas.{tables_named}

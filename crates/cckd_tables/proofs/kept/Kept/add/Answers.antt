@@ -1,10 +1,10 @@
-use Rattle.std.proofs.Common.{◌≡◌, ◌<◌, ◌≤◌, ◌++◌, ℕ, List, None, [], ◌∷◌, ◌∙◌, ap, sym, subst, arith}
+use Rattle.std.proofs.Common.{◌<◌, ◌≤◌, ◌++◌, ℕ, List, ◌∙◌, ap, sym, subst, arith}
 use Rattle.std.specs.BTreeMap.{values}
 use Rattle.std.specs.Map.{values_of}
 use Rattle.cckd_base.specs.declared.space.Extent.{Extent}
 use Rattle.cckd_base.specs.Survey.{met, placed_among, by_position}
 use Rattle.cckd_tables.specs.Kept.{end_of, KeepsOrder}
-use Rattle.cckd_tables.proofs.KeptLemmas.{push_keeps, push_places, placed_late, late_keeps, late_places, Placed}
+use Rattle.cckd_tables.proofs.KeptLemmas.{push_keeps, push_places, placed_late, late_keeps, late_places}
 use Rattle.cckd_tables.proofs.kept.Kept.add.Goals as goal
 use Rattle.cckd_tables.proofs.kept.Kept.add.Goals.{in-Ok, in-Err}
 

@@ -1,4 +1,4 @@
-use Rattle.std.proofs.Common.{◌≡◌, refl, sym, ◌∙◌}
+use Rattle.std.proofs.Common.{refl, sym, ◌∙◌}
 use Rattle.cckd_tables.proofs.TakeLemmas.{takes_met, takes_unmet}
 use Rattle.cckd_tables.proofs.progress.Progress.take_space.Goals as goal
 

@@ -1,5 +1,5 @@
-use Rattle.std.proofs.Common.{◌≡◌, ◌+◌, [], ◌∷◌, refl, sym, ◌∙◌, ap, subst, arith}
-use Rattle.cckd_tables.specs.Inside.{Takes, items_of_words}
+use Rattle.std.proofs.Common.{◌≡◌, [], ◌∷◌, sym, ap, arith}
+use Rattle.cckd_tables.specs.Inside.{items_of_words}
 use Rattle.cckd_tables.proofs.TakeLemmas.{takes_none, takes_then, takes_same}
 use Rattle.cckd_tables.proofs.ItemLemmas.{no_words, next_word}
 use Rattle.cckd_tables.proofs.FormedLemmas.{table_item_formed}
