@@ -6,7 +6,7 @@ use Rattle.cckd_base.specs.declared.misfit.Misfit.{Misfit}
 use Rattle.cckd_base.specs.Survey.{misfits}
 use Rattle.cckd_tables.specs.Scan.{first_misfit}
 use Rattle.cckd_shelf.specs.declared.fault.Faults.{Faults}
-use Rattle.cckd_shelf.specs.Events.{Synced}
+use Rattle.cckd_shelf.specs.Events.{Event, Synced}
 use Rattle.cckd_shelf.specs.Faults.{NoneFell}
 use Rattle.cckd_shelf.specs.Events.{output_of}
 use Rattle.cckd_shelf.specs.World.{World, IsSure, IsTied, file_of, held_by, after_sync}
@@ -20,7 +20,7 @@ use Rattle.cckd_shelf.proofs.WorldLemmas.{tied_slot}
 use Rattle.cckd_top.proofs.ShadowLemmas.{shadows_are_held}
 
 sync_makes : (w : World) (slot : ℕ) → OnlyMakes (Synced slot ∷ []) w (after_sync slot w)
-sync_makes w slot = record { files = refl; made = refl; silent = append-nil (output_of w.events); sure = refl; script = refl; intact = intact_at_sync w slot }
+sync_makes w slot = record { files = refl; made = refl; silent = refl; sure = refl; script = refl; intact = intact_at_sync w slot }
 
 -- The files have the names of a disk, and nothing else was done but to sync the base: slot 0 holds what the name held, and the slots above its shadows.
 pub record IsNamedDisk (tells : Type 0) (old now : World) (name : List ℕ) : Type 0 where

@@ -14,8 +14,8 @@ returns-in_default-opened-clause-cause g c =
     let disk = after_the_sync tells w (g.T.Shows.world c.bind_all.new.stage) synced name c.args.base c.requires.base c.in-Ok.ensures.idle c.in-Ok.ensures.named c.in-Ok-sync.ensures.synced in
     halts (tells × IsSure w) (tells × IsSure synced) w name (file_of synced 0) (g.T.Shows.faults c.args.stage.now) (g.T.Shows.faults c.sync.new.self)
     (g.T.Shows.faults c.open_base-opened.new.stage) c.open_base-opened.result
-    (λ t. (t.0, sure_still tells w synced name disk (g.met.T.Shows.tied c.sync.new.self) t.0 t.1))
-    (λ t. base_is tells w synced name disk (g.met.T.Shows.tied c.sync.new.self) t.0)
+    (λ t. (t.0, sure_still tells w synced name disk (g.T.Shows.tied c.sync.new.self) t.0 t.1))
+    (λ t. base_is tells w synced name disk (g.T.Shows.tied c.sync.new.self) t.0)
     (none_fell_twice _ (g.T.Shows.faults c.bind_all.new.stage) _ (fails_fell _ _ _ _ c.in-Ok.ensures.fails) (fails_fell _ _ _ _ c.in-Ok-sync.ensures.fails))
     c.open_base-opened.ensures.cause
 
@@ -69,7 +69,7 @@ returns-in-Ok-false-clause-base g c =
     c.in-Ok.ensures.idle c.in-Ok.ensures.named c.in-Ok-sync.ensures.synced in
     let last = same_disk tells w (g.T.Shows.world c.sync.new.self) (g.T.Shows.world c.any_shadow.new.stage) c.args.file.now disk
     (λ t. c.any_shadow.ensures.kept t ∙ c.open_base-opened.ensures.kept t) in
-    base_is tells w (g.T.Shows.world c.any_shadow.new.stage) c.args.file.now last (g.met.T.Shows.tied c.any_shadow.new.stage)
+    base_is tells w (g.T.Shows.world c.any_shadow.new.stage) c.args.file.now last (g.T.Shows.tied c.any_shadow.new.stage)
 
 pub returns-in-Ok-false-clause-opened : goal.returns-in-Ok-false-clause-opened
 returns-in-Ok-false-clause-opened g c = λ told sure.
@@ -81,12 +81,12 @@ returns-in-Ok-false-clause-opened g c = λ told sure.
     let disk = after_the_sync tells w (g.T.Shows.world c.bind_all.new.stage) synced name c.args.base c.requires.base
     c.in-Ok.ensures.idle c.in-Ok.ensures.named c.in-Ok-sync.ensures.synced in
     let later = same_disk tells w synced based name disk c.open_base-opened.ensures.kept in
-    let sure_synced = sure_still tells w synced name disk (g.met.T.Shows.tied c.sync.new.self) told sure in
-    let sure_based = sure_still tells w based name later (g.met.T.Shows.tied c.open_base-opened.new.stage) told sure in
+    let sure_synced = sure_still tells w synced name disk (g.T.Shows.tied c.sync.new.self) told sure in
+    let sure_based = sure_still tells w based name later (g.T.Shows.tied c.open_base-opened.new.stage) told sure in
     opens w name (file_of synced 0) c.in-Ok-opened.layout _
-    (base_is tells w synced name disk (g.met.T.Shows.tied c.sync.new.self) told)
+    (base_is tells w synced name disk (g.T.Shows.tied c.sync.new.self) told)
     (c.in-Ok-opened.ensures.opened told sure_synced)
-    (c.in-Ok-false.ensures.above told sure_based ∙ shadow_is tells w based name later (g.met.T.Shows.tied c.open_base-opened.new.stage) told)
+    (c.in-Ok-false.ensures.above told sure_based ∙ shadow_is tells w based name later (g.T.Shows.tied c.open_base-opened.new.stage) told)
     c.in-Ok-false.field-0-test
 
 pub returns-in-Ok-true-clause-cause : goal.returns-in-Ok-true-clause-cause
@@ -101,10 +101,10 @@ returns-in-Ok-true-clause-cause g c = λ both.
     let disk = after_the_sync tells w (g.T.Shows.world c.bind_all.new.stage) synced name c.args.base c.requires.base
     c.in-Ok.ensures.idle c.in-Ok.ensures.named c.in-Ok-sync.ensures.synced in
     let later = same_disk tells w synced based name disk c.open_base-opened.ensures.kept in
-    let sure_synced = sure_still tells w synced name disk (g.met.T.Shows.tied c.sync.new.self) told sure in
-    let sure_based = sure_still tells w based name later (g.met.T.Shows.tied c.open_base-opened.new.stage) told sure in
+    let sure_synced = sure_still tells w synced name disk (g.T.Shows.tied c.sync.new.self) told sure in
+    let sure_based = sure_still tells w based name later (g.T.Shows.tied c.open_base-opened.new.stage) told sure in
     opens_not_yet w name (file_of synced 0) c.in-Ok-opened.layout _
-    (base_is tells w synced name disk (g.met.T.Shows.tied c.sync.new.self) told)
+    (base_is tells w synced name disk (g.T.Shows.tied c.sync.new.self) told)
     (c.in-Ok-opened.ensures.opened told sure_synced)
-    (c.in-Ok-true.ensures.above told sure_based ∙ shadow_is tells w based name later (g.met.T.Shows.tied c.open_base-opened.new.stage) told)
+    (c.in-Ok-true.ensures.above told sure_based ∙ shadow_is tells w based name later (g.T.Shows.tied c.open_base-opened.new.stage) told)
     c.in-Ok-true.field-0-test
