@@ -3,6 +3,7 @@ ghost use Rattle.std.specs.Prelude.{◌≡◌, ◌<◌, ◌≤◌, [], length, I
 ghost use Rattle.cckd_shelf.specs.Faults.{Called};
 
 use crate::host_file::HostFile;
+use crate::stand_ins::StandIns;
 use crate::{Failed, Faults, Kind, Shelf, Slot, Stage};
 use std::alloc::Global;
 use std::io::{self, Read, Write};
@@ -13,6 +14,8 @@ use std::io::{self, Read, Write};
 pub struct HostStage {
     rt: HostRuntime,
     alloc: Global,
+    stand_ins: StandIns,
+    /// One for each name that was bound, in the order of their first binds.
     files: Vec<HostFile>,
     calls: u64,
     faults: Faults,
@@ -27,6 +30,7 @@ impl HostStage {
         HostStage {
             rt,
             alloc,
+            stand_ins: StandIns::new(alloc),
             files: Vec::new(alloc),
             calls: 0,
             faults: Faults::none(),
@@ -40,30 +44,34 @@ fn count_call(calls: &mut u64)
     *calls = calls.saturating_add(1);
 }
 
-/// Gives the slot the file of the name, and takes it from another slot that has it.
+/// Gives the slot the file of the name, and takes it from another slot that has it. No file is opened before the
+/// descriptors of the standard streams are taken.
 fn bind(
     rt: &HostRuntime,
     alloc: Global,
+    stand_ins: &mut StandIns,
     files: &mut Vec<HostFile>,
     slot: u8,
     name: &str,
 ) -> io::Result<()> {
-    if files
-        .iter()
-        .any(|file| file.slot == slot && file.has_name(name))
-    {
-        return Ok(());
+    stand_ins.take_all(rt)?;
+    if !files.iter().any(|file| file.has_name(name)) {
+        files.push(HostFile::open(rt, alloc, name)?)?;
     }
-    let file = HostFile::open(rt, alloc, slot, name)?;
-    files.retain(|file| file.slot != slot && !file.has_name(name));
-    files.push(file)?;
+    for file in files.iter_mut() {
+        if file.has_name(name) {
+            file.put_in(slot);
+        } else {
+            file.take_from(slot);
+        }
+    }
     Ok(())
 }
 
 fn place_of(files: &[HostFile], slot: Slot) -> Option<usize>
     ensures { IfSome result (λ at. at < length files.now) }
 {
-    files.iter().position(|file| file.slot == slot.get())
+    files.iter().position(|file| file.is_in(slot.get()))
 }
 
 impl Shelf for HostStage {
@@ -81,7 +89,15 @@ impl Shelf for HostStage {
 
     fn bind(&mut self, slot: Slot, name: &str) -> Result<(), Failed> {
         count_call(&mut self.calls);
-        match bind(&self.rt, self.alloc, &mut self.files, slot.get(), name) {
+        let outcome = bind(
+            &self.rt,
+            self.alloc,
+            &mut self.stand_ins,
+            &mut self.files,
+            slot.get(),
+            name,
+        );
+        match outcome {
             Ok(()) => Ok(()),
             Err(_) => Err(self.faults.raise(Kind::Reads)),
         }

@@ -20,6 +20,7 @@ mod sending;
 mod shelf;
 mod slot;
 mod stage;
+mod stand_ins;
 #[cfg(test)]
 mod tests;
 
