@@ -1,9 +1,0 @@
-pub mod CountLemmas
-pub mod FileLemmas
-pub mod HistoryLemmas
-pub mod ImageLemmas
-pub mod MomentLemmas
-pub mod OutcomeLemmas
-pub mod StopLemmas
-pub mod StoredLemmas
-pub mod WorldLemmas
