@@ -86,11 +86,11 @@ impl Shows for HostStage {
     ghost faults = { λ s. s.faults };
 
     ghost calls = { λ s. s.calls };
+
+    ghost tied = { λ s told. absurd told };
 }
 
 impl Shelf for HostStage {
-    ghost tied = { λ s told. absurd told };
-
     fn bind(&mut self, slot: Slot, name: &str) -> Result<(), Failed> {
         count_call(&mut self.calls);
         let outcome = bind(

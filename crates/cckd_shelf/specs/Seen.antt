@@ -1,5 +1,5 @@
 -- What a stage shows, and what a call does to it.
-use Rattle.std.specs.Prelude.{ℕ, ◌≡◌, ◌⊎◌, ◌+◌, ◌≤◌, Bool, IsTrue, List, [], length, take, Result, OnOk, OnErr}
+use Rattle.std.specs.Prelude.{ℕ, ◌≡◌, ◌⊎◌, ◌+◌, ◌≤◌, Bool, T, List, [], length, take, Result, OnOk, OnErr}
 use Rattle.cckd_shelf.specs.declared.fault.Failed.{Failed}
 use Rattle.cckd_shelf.specs.declared.fault.Faults.{Faults}
 use Rattle.cckd_shelf.specs.declared.shows.Shows.{Ghosts}
@@ -15,12 +15,12 @@ pub record Seen : Type 0 where
   pub calls : ℕ
 
 -- what a stage of a type shows; whether it tells is a fact of the type
-abbrev pub seen : {T : Type 0} → Ghosts T → T → Seen
+abbrev pub seen : {S : Type 0} → Ghosts S → S → Seen
 seen shows stage = record { tells = shows.tells; world = shows.world stage; faults = shows.faults stage; calls = shows.calls stage }
 
 -- it tells what it holds
 abbrev pub Tells : Seen → Type 0
-Tells s = IsTrue s.tells
+Tells s = T s.tells
 
 -- nothing is changed of what it holds
 abbrev pub Stays : Seen → Seen → Type 0
@@ -36,7 +36,7 @@ MayMake change old new = Tells old → (new.world ≡ change old.world) ⊎ (new
 
 -- What a call of this kind does to the counts of faults: one that was Ok leaves them, and one that failed raises
 -- its own, and no other.
-pub record Fails {T : Type 0} (kind : Kind) (result : Result T Failed) (old new : Seen) : Type 0 where
+pub record Fails {A : Type 0} (kind : Kind) (result : Result A Failed) (old new : Seen) : Type 0 where
   pub still : OnOk result (new.faults ≡ old.faults)
   pub rose : OnErr result (Raises kind old.faults new.faults)
 

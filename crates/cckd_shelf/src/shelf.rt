@@ -1,7 +1,7 @@
 //! Files in slots.
-ghost use Rattle.std.specs.Prelude.{◌+◌, ◌^◌, ◌<◌, length, IsTrue, IfOk, OnOk, OnErr};
+ghost use Rattle.std.specs.Prelude.{◌+◌, ◌^◌, ◌<◌, length, IfOk, OnOk, OnErr};
 ghost use Rattle.cckd_shelf.specs.Faults.{Reads, Writes, Syncs};
-ghost use Rattle.cckd_shelf.specs.World.{IsTied, after_bind, after_write, after_torn, after_cut, after_half_cut, after_sync};
+ghost use Rattle.cckd_shelf.specs.World.{after_bind, after_write, after_torn, after_cut, after_half_cut, after_sync};
 ghost use Rattle.cckd_shelf.specs.Seen.{seen, Stays, Makes, MayMake, Fails, Called, IsLength, HasBytes, IsPart};
 
 use crate::{Failed, Shows, Slot};
@@ -56,7 +56,4 @@ pub trait Shelf: Shows {
         ensures kept { OnErr result (Stays (seen Self.Shows self.old) (seen Self.Shows self.new)) }
         ensures fails { Fails Syncs result (seen Self.Shows self.old) (seen Self.Shows self.new) }
         ensures called { Called (seen Self.Shows self.old) (seen Self.Shows self.new) };
-
-    /// A name that some slot got once holds what was done to it.
-    ghost tied: { (shelf : Self) → IsTrue Self.tells → IsTied (Self.world shelf) };
 }

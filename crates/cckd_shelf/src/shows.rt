@@ -1,6 +1,6 @@
 //! What a stage shows of itself.
-ghost use Rattle.std.specs.Prelude.{ℕ, Bool};
-ghost use Rattle.cckd_shelf.specs.World.{World};
+ghost use Rattle.std.specs.Prelude.{ℕ, Bool, T};
+ghost use Rattle.cckd_shelf.specs.World.{World, IsTied};
 ghost use Rattle.cckd_shelf.specs.declared.fault.Faults.{Faults as Counts};
 
 /// What contracts see of a shelf or a stage, as one value: `seen S.Shows shelf.old`.
@@ -16,4 +16,7 @@ pub trait Shows {
 
     /// How many calls of the shelf and of the stage were made.
     ghost calls: { Self → ℕ };
+
+    /// A name that some slot got once holds what was done to it.
+    ghost tied: { (shelf : Self) → T tells → IsTied (world shelf) };
 }
