@@ -3,8 +3,7 @@ ghost use Rattle.std.specs.Prelude.{◌≡◌, ◌+◌, ◌<◌, ◌≤◌, leng
 ghost use Rattle.cckd_shelf.specs.Faults.{no_faults};
 
 use crate::host_file::HostFile;
-use crate::stand_ins::StandIns;
-use crate::streams::{read_some, write_some};
+use crate::streams::{Streams, read_input};
 use cckd_shelf::{Failed, Faults, Kind, Shelf, Shows, Slot, Stage};
 use std::alloc::Global;
 use std::io;
@@ -15,7 +14,7 @@ use std::io;
 pub struct HostStage {
     rt: HostRuntime,
     alloc: Global,
-    stand_ins: StandIns,
+    streams: Streams,
     /// One for each name that was bound, in the order of their first binds.
     files: Vec<HostFile>,
     calls: u64,
@@ -31,7 +30,7 @@ impl HostStage {
         HostStage {
             rt,
             alloc,
-            stand_ins: StandIns::new(alloc),
+            streams: Streams::new(alloc),
             files: Vec::new(alloc),
             calls: 0,
             faults: Faults::none(),
@@ -51,14 +50,16 @@ fn count_call(calls: &mut u64)
 fn bind(
     rt: &HostRuntime,
     alloc: Global,
-    stand_ins: &mut StandIns,
+    streams: &mut Streams,
     files: &mut Vec<HostFile>,
     slot: u8,
     name: &str,
 ) -> io::Result<()> {
-    stand_ins.take_all(rt)?;
+    streams.take_descriptors(rt)?;
     if !files.iter().any(|file| file.has_name(name)) {
-        files.push(HostFile::open(rt, alloc, name)?)?;
+        let file = HostFile::open(rt, alloc, name)?;
+        streams.keep_apart(rt, &file);
+        files.push(file)?;
     }
     for file in files.iter_mut() {
         if file.has_name(name) {
@@ -96,7 +97,7 @@ impl Shelf for HostStage {
         let outcome = bind(
             &self.rt,
             self.alloc,
-            &mut self.stand_ins,
+            &mut self.streams,
             &mut self.files,
             slot.get(),
             name,
@@ -169,7 +170,7 @@ impl Shelf for HostStage {
 impl Stage for HostStage {
     fn take(&mut self, into: &mut [u8]) -> Result<usize, Failed> {
         count_call(&mut self.calls);
-        match read_some(&self.rt, into) {
+        match read_input(&self.rt, into) {
             Ok(n) => Ok(n),
             Err(_) => Err(self.faults.raise(Kind::Takes)),
         }
@@ -177,7 +178,7 @@ impl Stage for HostStage {
 
     fn put(&mut self, bytes: &[u8]) -> Result<usize, Failed> {
         count_call(&mut self.calls);
-        match write_some(&self.rt, bytes) {
+        match self.streams.write(&self.rt, bytes) {
             Ok(n) => Ok(n),
             Err(_) => Err(self.faults.raise(Kind::Puts)),
         }

@@ -6,9 +6,6 @@ use std::io;
 use std::os::unix::fs::{FileExt, MetadataExt};
 use std::path::Path;
 
-/// The names by which the standard streams can be looked at.
-const STREAMS: [&str; 3] = ["/dev/stdin", "/dev/stdout", "/dev/stderr"];
-
 /// What is open of a file.
 #[derive(Drop)]
 enum Handle {
@@ -61,6 +58,16 @@ impl HostFile {
         self.name.as_str() == name
     }
 
+    /// Whether what was looked at is this file.
+    pub(crate) fn is_that_of(&self, other: &Metadata) -> bool {
+        match &self.handle {
+            Handle::Absent => false,
+            Handle::Reading(file) | Handle::Writing(file) => {
+                file.metadata().is_ok_and(|found| is_same(&found, other))
+            }
+        }
+    }
+
     pub(crate) fn is_in(&self, slot: u8) -> bool {
         self.slot == Some(slot)
     }
@@ -78,8 +85,7 @@ impl HostFile {
     pub(crate) fn len(&self) -> io::Result<u64> {
         match &self.handle {
             Handle::Absent => Ok(0),
-            Handle::Reading(file) => Ok(file.metadata()?.len()),
-            Handle::Writing(file) => Ok(file.metadata()?.len()),
+            Handle::Reading(file) | Handle::Writing(file) => Ok(file.metadata()?.len()),
         }
     }
 
@@ -88,8 +94,7 @@ impl HostFile {
         match &self.handle {
             Handle::Absent if into.is_empty() => Ok(()),
             Handle::Absent => Err(io::ErrorKind::UnexpectedEof.into()),
-            Handle::Reading(file) => file.read_exact_at(into, pos),
-            Handle::Writing(file) => file.read_exact_at(into, pos),
+            Handle::Reading(file) | Handle::Writing(file) => file.read_exact_at(into, pos),
         }
     }
 
@@ -125,8 +130,7 @@ impl HostFile {
         }
         let outcome = match &self.handle {
             Handle::Absent => return Ok(()),
-            Handle::Reading(file) => self.sync_file(rt, file),
-            Handle::Writing(file) => self.sync_file(rt, file),
+            Handle::Reading(file) | Handle::Writing(file) => self.sync_file(rt, file),
         };
         self.owed = if outcome.is_ok() {
             Owed::Bytes
@@ -173,26 +177,19 @@ impl HostFile {
 /// What the name stands for is looked at before it is opened, since opening a pipe waits for its other end, and
 /// once more behind that.
 fn open_regular(rt: &HostRuntime, name: &str) -> io::Result<File> {
-    require_regular(rt, &fs::metadata(rt, name)?)?;
+    require_regular(&fs::metadata(rt, name)?)?;
     let file = File::open(rt, name)?;
-    require_regular(rt, &file.metadata()?)?;
+    require_regular(&file.metadata()?)?;
     Ok(file)
 }
 
-/// A folder, a pipe or a device is refused, and a file that a standard stream reads or writes.
-fn require_regular(rt: &HostRuntime, found: &Metadata) -> io::Result<()> {
-    if !found.is_file() {
-        return Err(io::ErrorKind::InvalidInput.into());
+/// A folder, a pipe or a device is refused.
+fn require_regular(found: &Metadata) -> io::Result<()> {
+    if found.is_file() {
+        Ok(())
+    } else {
+        Err(io::ErrorKind::InvalidInput.into())
     }
-    for name in STREAMS {
-        // A stream that can't be looked at is no file.
-        if let Ok(stream) = fs::metadata(rt, name)
-            && is_same(&stream, found)
-        {
-            return Err(io::ErrorKind::InvalidInput.into());
-        }
-    }
-    Ok(())
 }
 
 /// Whether both are of one file. One of the two has to be open, so that its number is no other file's.

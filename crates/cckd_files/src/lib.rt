@@ -4,7 +4,6 @@
 mod host;
 mod host_file;
 mod sending;
-mod stand_ins;
 mod streams;
 #[cfg(test)]
 mod tests;
