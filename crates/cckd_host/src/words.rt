@@ -17,11 +17,11 @@ fn text_of(alloc: Global, bytes: &[u8]) -> Result<String, AllocError> {
 
 /// The words behind the program's name. A word that is too long to stand anywhere is made empty, and
 /// an empty word may stand nowhere either.
-pub fn words_of(rt: &impl Env, alloc: Global) -> Result<Vec<String>, AllocError> {
+pub fn words_of(env: &impl Env, alloc: Global) -> Result<Vec<String>, AllocError> {
     let mut words = Vec::new(alloc);
     let mut room = [0; WORD_ROOM];
     for number in 1..usize::MAX {
-        match rt.arg(number, &mut room) {
+        match env.arg(number, &mut room) {
             Ok(len) => words.push(text_of(alloc, &room[..len])?)?,
             Err(FillError::TooLong) => words.push(String::new(alloc))?,
             Err(FillError::NotPresent) => break,
