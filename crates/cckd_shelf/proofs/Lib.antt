@@ -1,9 +1,5 @@
-pub mod CountLemmas
-pub mod FileLemmas
-pub mod HistoryLemmas
-pub mod ImageLemmas
 pub mod MomentLemmas
+pub mod NameLemmas
 pub mod OutcomeLemmas
 pub mod StopLemmas
-pub mod StoredLemmas
 pub mod WorldLemmas

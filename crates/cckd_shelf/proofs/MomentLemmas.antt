@@ -1,12 +1,13 @@
 -- Laws of "at each operation": stretches of events, and calls of a shelf at Ok and at a failure at once.
 use Rattle.std.proofs.Common.{◌≡◌, ◌⊎◌, ℕ, List, [], ◌∷◌, ◌++◌, take, Result, Ok, Err, OnOk, OnErr, IfOk, refl, sym, ◌∙◌, ap, subst, inl, inr}
-use Rattle.std.proofs.lemmas.List.{append_assoc}
+use Rattle.std.proofs.lemmas.List.{append_assoc, append_cancel_right}
 use Rattle.cckd_shelf.specs.declared.fault.Failed.{Failed}
-use Rattle.cckd_shelf.specs.declared.op.Op.TheVariants.{Write, Torn, Cut, Sync, Out}
 use Rattle.cckd_shelf.specs.Files.{overlaid}
-use Rattle.cckd_shelf.specs.World.{World, Event, Made, Half, after_write, after_torn, after_cut, after_half_cut, after_sync, after_put}
-use Rattle.cckd_shelf.specs.Outcomes.{WriteLeaves, EachHeld, EachOutcome, Along, AtEach}
-use Rattle.cckd_shelf.proofs.OutcomeLemmas.{write_step, torn_step, cut_step, half_cut_step, sync_step, sync_settles, held_write}
+use Rattle.cckd_shelf.specs.Events.{Event, Written, Torn, Cut, HalfCut, Synced, Put}
+use Rattle.cckd_shelf.specs.World.{World, IsSure, file_of, after_write, after_torn, after_cut, after_half_cut, after_sync, after_put}
+use Rattle.cckd_shelf.specs.Seen.{Seen, Tells, Stays, Makes, MayMake}
+use Rattle.cckd_shelf.specs.Outcomes.{WriteLeaves, CutLeaves, EachHeld, EachOutcome, OthersStill, Along, AtEach}
+use Rattle.cckd_shelf.proofs.OutcomeLemmas.{write_step, torn_step, cut_step, half_cut_step, sync_step, sync_settles, sync_leaves_now, held_write}
 
 -- nothing happened
 pub at_once : (Q : List Event → Type 0) (es : List Event) → Q es → AtEach es es Q
@@ -66,47 +67,99 @@ pub next_at : (Q : List Event → Type 0) (w new : World) (e : Event) → new.ev
 next_at Q w new e same was now =
     subst (λ (es : List Event). AtEach w.events es Q) (sym same) (at_next Q w.events w.events e (at_once Q w.events was) now)
 
--- A write of the slot, at Ok and at a failure at once: what held before it, and what holds from then on.
-pub wrote : (P Q : List ℕ → Type 0) (slot position : ℕ) (bytes : List ℕ) (w new : World) (result : Result (Unit {0}) Failed)
-    → OnOk result (new ≡ after_write w slot position bytes) → OnErr result ((new ≡ after_torn w slot position bytes) ⊎ (new ≡ w))
-    → EachOutcome slot P w.events → ((was : List ℕ) → P was → Q was) → ((was file : List ℕ) → P was → WriteLeaves position bytes was file → Q file)
-    → AtEach w.events new.events (EachOutcome slot Q)
-wrote P Q slot position bytes w new (Ok u) ok err each same step =
-    next_at (EachOutcome slot Q) w new (Made (Write slot position bytes)) (ap (λ (x : World). x.events) ok) (λ file h. same file (each file h)) (write_step P Q slot position bytes w.events each step)
-wrote P Q slot position bytes w new (Err e) ok (inl torn) each same step =
-    next_at (EachOutcome slot Q) w new (Half (Torn slot position bytes)) (ap (λ (x : World). x.events) torn) (λ file h. same file (each file h)) (torn_step P Q slot position bytes w.events each step)
-wrote P Q slot position bytes w new (Err e) ok (inr kept) each same step = kept_at (EachOutcome slot Q) w new kept (λ file h. same file (each file h))
+along_behind : (Q R : List Event → Type 0) (newer old : List Event) → ((more : List Event) → Q (more ++ old) → R (more ++ old)) → Along Q newer old → Along R newer old
+along_behind Q R [] old step h = step [] h
+along_behind Q R (e ∷ newer) old step h = (along_behind Q R newer old step h.0, step (e ∷ newer) h.1)
 
-pub cut_off : (P Q : List ℕ → Type 0) (slot len : ℕ) (w new : World) (result : Result (Unit {0}) Failed)
-    → OnOk result (new ≡ after_cut w slot len) → OnErr result ((new ≡ after_half_cut w slot len) ⊎ (new ≡ w))
-    → EachOutcome slot P w.events → ((was : List ℕ) → P was → Q was) → ((was : List ℕ) → P was → Q (take len was))
-    → AtEach w.events new.events (EachOutcome slot Q)
-cut_off P Q slot len w new (Ok u) ok err each same step =
-    next_at (EachOutcome slot Q) w new (Made (Cut slot len)) (ap (λ (x : World). x.events) ok) (λ file h. same file (each file h)) (cut_step P Q slot len w.events each same step)
-cut_off P Q slot len w new (Err e) ok (inl half) each same step =
-    next_at (EachOutcome slot Q) w new (Half (Cut slot len)) (ap (λ (x : World). x.events) half) (λ file h. same file (each file h)) (half_cut_step P Q slot len w.events each same step)
-cut_off P Q slot len w new (Err e) ok (inr kept) each same step = kept_at (EachOutcome slot Q) w new kept (λ file h. same file (each file h))
+-- what follows at each moment, where it is used that the moment lies behind the first one
+pub weaker_behind : (Q R : List Event → Type 0) (old new : List Event) → ((more : List Event) → Q (more ++ old) → R (more ++ old)) → AtEach old new Q → AtEach old new R
+weaker_behind Q R old new step h = record { newer = h.newer; grown = h.grown; each = along_behind Q R h.newer old step h.each }
 
-pub synced : (P : List ℕ → Type 0) (slot s : ℕ) (w new : World) (result : Result (Unit {0}) Failed)
-    → OnOk result (new ≡ after_sync w s) → OnErr result (new ≡ w) → EachOutcome slot P w.events → AtEach w.events new.events (EachOutcome slot P)
-synced P slot s w new (Ok u) ok err each =
-    next_at (EachOutcome slot P) w new (Made (Sync s)) (ap (λ (x : World). x.events) ok) each (sync_step P slot s w.events each)
-synced P slot s w new (Err e) ok err each = kept_at (EachOutcome slot P) w new err each
+along_both : (Q R : List Event → Type 0) (newer old : List Event) → Along Q newer old → Along R newer old → Along (λ es. Q es × R es) newer old
+along_both Q R [] old f g = (f, g)
+along_both Q R (e ∷ newer) old f g = (along_both Q R newer old f.0 g.0, (f.1, g.1))
 
-pub put_out : (P : List ℕ → Type 0) (slot : ℕ) (bytes : List ℕ) (w new : World) (result : Result ℕ Failed)
-    → IfOk result (λ n. new ≡ after_put w (take n bytes)) → OnErr result (new ≡ w) → EachOutcome slot P w.events → AtEach w.events new.events (EachOutcome slot P)
-put_out P slot bytes w new (Ok n) ok err each =
-    next_at (EachOutcome slot P) w new (Made (Out (take n bytes))) (ap (λ (x : World). x.events) ok) each each
-put_out P slot bytes w new (Err e) ok err each = kept_at (EachOutcome slot P) w new err each
+-- two facts over one stretch are one
+pub both : (Q R : List Event → Type 0) (old new : List Event) → AtEach old new Q → AtEach old new R → AtEach old new (λ es. Q es × R es)
+both Q R old new f g = record {
+  newer = f.newer;
+  grown = f.grown;
+  each = along_both Q R f.newer old f.each
+      (subst (λ (es : List Event). Along R es old) (append_cancel_right g.newer f.newer old (sym g.grown ∙ f.grown)) g.each);
+}
+
+-- Calls of a shelf that tells, at Ok and at a failure at once. The facts on old and new are the clauses of the call.
+
+-- a write of the slot: what held before it, and what holds from then on
+pub wrote : (P Q : List ℕ → Type 0) (slot position : ℕ) (bytes : List ℕ) (old new : Seen) (result : Result (Unit {0}) Failed)
+    → OnOk result (Makes (after_write slot position bytes) old new) → OnErr result (MayMake (after_torn slot position bytes) old new) → Tells old
+    → EachOutcome slot P old.world.events → ((was : List ℕ) → P was → Q was) → ((was file : List ℕ) → P was → WriteLeaves position bytes was file → Q file)
+    → AtEach old.world.events new.world.events (EachOutcome slot Q)
+wrote P Q slot position bytes old new (Ok u) ok err told each same step =
+    next_at (EachOutcome slot Q) old.world new.world (Written slot position bytes) (ap (λ (x : World). x.events) (ok told)) (λ file h. same file (each file h)) (write_step P Q slot position bytes old.world.events each step)
+wrote P Q slot position bytes old new (Err e) ok err told each same step =
+    elim (err told) [
+      | inl torn ↦ next_at (EachOutcome slot Q) old.world new.world (Torn slot position bytes) (ap (λ (x : World). x.events) torn) (λ file h. same file (each file h)) (torn_step P Q slot position bytes old.world.events each step)
+      | inr kept ↦ kept_at (EachOutcome slot Q) old.world new.world kept (λ file h. same file (each file h))
+    ]
+
+pub cut_off : (P Q : List ℕ → Type 0) (slot len : ℕ) (old new : Seen) (result : Result (Unit {0}) Failed)
+    → OnOk result (Makes (after_cut slot len) old new) → OnErr result (MayMake (after_half_cut slot len) old new) → Tells old
+    → EachOutcome slot P old.world.events → ((was : List ℕ) → P was → Q was) → ((was : List ℕ) → P was → Q (take len was))
+    → AtEach old.world.events new.world.events (EachOutcome slot Q)
+cut_off P Q slot len old new (Ok u) ok err told each same step =
+    next_at (EachOutcome slot Q) old.world new.world (Cut slot len) (ap (λ (x : World). x.events) (ok told)) (λ file h. same file (each file h)) (cut_step P Q slot len old.world.events each same step)
+cut_off P Q slot len old new (Err e) ok err told each same step =
+    elim (err told) [
+      | inl half ↦ next_at (EachOutcome slot Q) old.world new.world (HalfCut slot len) (ap (λ (x : World). x.events) half) (λ file h. same file (each file h)) (half_cut_step P Q slot len old.world.events each same step)
+      | inr kept ↦ kept_at (EachOutcome slot Q) old.world new.world kept (λ file h. same file (each file h))
+    ]
+
+-- a sync of any slot
+pub synced : (P : List ℕ → Type 0) (slot s : ℕ) (old new : Seen) (result : Result (Unit {0}) Failed)
+    → OnOk result (Makes (after_sync s) old new) → OnErr result (Stays old new) → Tells old → EachOutcome slot P old.world.events
+    → AtEach old.world.events new.world.events (EachOutcome slot P)
+synced P slot s old new (Ok u) ok err told each =
+    next_at (EachOutcome slot P) old.world new.world (Synced s) (ap (λ (x : World). x.events) (ok told)) each (sync_step P slot s old.world.events each)
+synced P slot s old new (Err e) ok err told each = kept_at (EachOutcome slot P) old.world new.world (err told) each
+
+-- a stretch, and then a sync
+pub then_synced : (P : List ℕ → Type 0) (slot s : ℕ) (first old new : Seen) (result : Result (Unit {0}) Failed)
+    → OnOk result (Makes (after_sync s) old new) → OnErr result (Stays old new) → Tells old
+    → AtEach first.world.events old.world.events (EachOutcome slot P) → AtEach first.world.events new.world.events (EachOutcome slot P)
+then_synced P slot s first old new result ok err told before =
+    joins (EachOutcome slot P) first.world.events old.world.events new.world.events before
+    (synced P slot s old new result ok err told (at_end (EachOutcome slot P) first.world.events old.world.events before))
+
+pub put_out : (P : List ℕ → Type 0) (slot : ℕ) (bytes : List ℕ) (old new : Seen) (result : Result ℕ Failed)
+    → IfOk result (λ n. Makes (after_put (take n bytes)) old new) → OnErr result (Stays old new) → Tells old → EachOutcome slot P old.world.events
+    → AtEach old.world.events new.world.events (EachOutcome slot P)
+put_out P slot bytes old new (Ok n) ok err told each =
+    next_at (EachOutcome slot P) old.world new.world (Put (take n bytes)) (ap (λ (x : World). x.events) (ok told)) each each
+put_out P slot bytes old new (Err e) ok err told each = kept_at (EachOutcome slot P) old.world new.world (err told) each
 
 -- what may be held after a write that was Ok
-pub held_wrote : (P Q : List ℕ → Type 0) (slot position : ℕ) (bytes : List ℕ) (w new : World) → new ≡ after_write w slot position bytes
-    → EachHeld slot P w.events → ((was : List ℕ) → P was → Q (overlaid was position bytes)) → EachHeld slot Q new.events
-held_wrote P Q slot position bytes w new e each step =
-    subst (λ (x : World). EachHeld slot Q x.events) (sym e) (held_write P Q slot position bytes w.events each step)
+pub held_wrote : (P Q : List ℕ → Type 0) (slot position : ℕ) (bytes : List ℕ) (old new : Seen) → Makes (after_write slot position bytes) old new → Tells old
+    → EachHeld slot P old.world.events → ((was : List ℕ) → P was → Q (overlaid was position bytes)) → EachHeld slot Q new.world.events
+held_wrote P Q slot position bytes old new e told each step =
+    subst (λ (x : World). EachHeld slot Q x.events) (sym (e told)) (held_write P Q slot position bytes old.world.events each step)
 
 -- A sync that was Ok leaves exactly what may be held.
-pub sync_done : (P : List ℕ → Type 0) (slot : ℕ) (w new : World) (result : Result (Unit {0}) Failed) → OnOk result (new ≡ after_sync w slot)
-    → EachHeld slot P w.events → OnOk result (EachOutcome slot P new.events)
-sync_done P slot w new (Ok u) e each = subst (λ (x : World). EachOutcome slot P x.events) (sym e) (sync_settles P slot w.events each)
-sync_done P slot w new (Err failed) e each = tt
+pub sync_done : (P : List ℕ → Type 0) (slot : ℕ) (old new : Seen) (result : Result (Unit {0}) Failed) → OnOk result (Makes (after_sync slot) old new) → Tells old
+    → EachHeld slot P old.world.events → OnOk result (EachOutcome slot P new.world.events)
+sync_done P slot old new (Ok u) e told each = subst (λ (x : World). EachOutcome slot P x.events) (sym (e told)) (sync_settles P slot old.world.events each)
+sync_done P slot old new (Err failed) e told each = tt
+
+-- Where no operation failed half way before it, that is the file now,
+pub sync_leaves : (P : List ℕ → Type 0) (slot : ℕ) (old new : Seen) (result : Result (Unit {0}) Failed) → OnOk result (Makes (after_sync slot) old new) → Tells old
+    → IsSure old.world → P (file_of old.world slot) → OnOk result (EachOutcome slot P new.world.events)
+sync_leaves P slot old new (Ok u) e told sure here =
+    subst (λ (x : World). EachOutcome slot P x.events) (sym (e told)) (λ file outcome. subst P (sym (sync_leaves_now slot old.world.events sure file outcome)) here)
+sync_leaves P slot old new (Err f) e told sure here = tt
+
+-- the same, said of the file behind the sync
+pub sync_alone : (slot : ℕ) (old new : Seen) (result : Result (Unit {0}) Failed) → OnOk result (Makes (after_sync slot) old new) → Tells old
+    → IsSure old.world → OnOk result (EachOutcome slot (λ file. file ≡ file_of new.world slot) new.world.events)
+sync_alone slot old new (Ok u) e told sure =
+    subst (λ (x : World). EachOutcome slot (λ file. file ≡ file_of x slot) x.events) (sym (e told)) (λ file outcome. sync_leaves_now slot old.world.events sure file outcome)
+sync_alone slot old new (Err f) e told sure = tt

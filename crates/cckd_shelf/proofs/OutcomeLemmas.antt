@@ -1,13 +1,12 @@
 -- The laws of outcomes: one slot, one event more of each kind, at Ok and at a failure.
-use Rattle.std.proofs.Common.{◌≡◌, ◌⊎◌, ℕ, ◌+◌, ◌-◌, ◌<◌, ◌≤◌, ◌==◌, max, Bool, true, false, cond, List, [], ◌∷◌, ◌++◌, length, take, drop, replicate, get_or, refl, sym, ◌∙◌, ap, subst, inl, inr, arith}
-use Rattle.std.specs.Prelude.{MatchBool}
-use Rattle.std.proofs.lemmas.Bool.{cases_Bool, cond-true, cond-false, eq-eqb, ne_eqb, MatchBool-at_true, MatchBool-at_false}
+use Rattle.std.proofs.Common.{◌≡◌, ◌⊎◌, ℕ, ◌+◌, ◌-◌, ◌<◌, ◌≤◌, max, Bool, true, false, cond, List, [], ◌∷◌, ◌++◌, length, take, drop, replicate, get_or, Option, Some, None, unwrap_or, refl, sym, ◌∙◌, ap, subst, inl, inr, arith}
+use Rattle.std.specs.Prelude.{MatchBool, MatchOption}
+use Rattle.std.proofs.lemmas.Bool.{cases_Bool, cond-true, cond-false, MatchBool-at_true, MatchBool-at_false}
 use Rattle.std.proofs.lemmas.List.{length-append, length-take, length-drop, length-replicate, get_or_append_left, get_or-append_right, get_or-take, get_or-drop, take_at, drop_at}
-use Rattle.cckd_shelf.specs.declared.op.Op.{Op}
-use Rattle.cckd_shelf.specs.declared.op.Op.TheVariants.{Write, Torn, Cut, Sync, Out}
-use Rattle.cckd_shelf.specs.Files.{overlaid, after_op}
-use Rattle.cckd_shelf.specs.World.{Event, Made, Half, Bound, is_name, name_of, file_now, is_sure}
-use Rattle.cckd_shelf.specs.Outcomes.{WriteLeaves, OpLeaves, MayHold, IsOutcome, EachOutcome, EachHeld}
+use Rattle.cckd_shelf.specs.Files.{overlaid}
+use Rattle.cckd_shelf.specs.Events.{Event, Written, Torn, Cut, HalfCut, Synced, Put, Bound, Name, goes_by, is_about, begun, held_now, file_now, is_sure}
+use Rattle.cckd_shelf.specs.Outcomes.{WriteLeaves, CutLeaves, MayHave, MayBeLeft, MayHold, IsOutcome, EachOutcome, EachHeld}
+use Rattle.cckd_shelf.proofs.NameLemmas.{about_own, about_other}
 
 -- a test that came out one way
 pub at_true : (P Q : Type 0) (b : Bool) → b ≡ true → P → MatchBool b P Q
@@ -77,149 +76,151 @@ write_not_made position bytes old = record {
   whole = λ _. inl refl;
 }
 
-pub op_made : (op : Op) (slot : ℕ) (old : List ℕ) → OpLeaves op slot old (after_op op slot old)
-op_made (Write s position bytes) slot old =
-    elim (s == slot) as (λ b. MatchBool b (WriteLeaves position bytes old (cond b (overlaid old position bytes) old)) (cond b (overlaid old position bytes) old ≡ old)) [
-      | true ↦ write_made position bytes old
-      | false ↦ refl
+-- at a file to which something was done, and at another one
+
+write_by : (b : Bool) (position : ℕ) (bytes old file : List ℕ) → file ≡ cond b (overlaid old position bytes) old
+    → MatchBool b (WriteLeaves position bytes old file) (file ≡ old)
+write_by true position bytes old file e = subst (WriteLeaves position bytes old) (sym e) (write_made position bytes old)
+write_by false position bytes old file e = e
+
+cut_by : (b : Bool) (len : ℕ) (old file : List ℕ) → file ≡ cond b (take len old) old → MatchBool b (CutLeaves len old file) (file ≡ old)
+cut_by true len old file e = inr e
+cut_by false len old file e = e
+
+bound_by : (begins : Option (List ℕ)) (P Q : List ℕ → Type 0) (file : List ℕ) → (P file → Q file)
+    → MatchOption begins (P file) (λ (start : List ℕ). file ≡ start) → MatchOption begins (Q file) (λ (start : List ℕ). file ≡ start)
+bound_by None P Q file step h = step h
+bound_by (Some start) P Q file step h = h
+
+bound_now : (begins : Option (List ℕ)) (P : List ℕ → Type 0) (now : List ℕ) → P now
+    → MatchOption begins (P (unwrap_or begins now)) (λ (start : List ℕ). unwrap_or begins now ≡ start)
+bound_now None P now h = h
+bound_now (Some start) P now h = refl
+
+bound_is_now : (begins : Option (List ℕ)) (P : List ℕ → Type 0) (now file : List ℕ) → (P file → file ≡ now)
+    → MatchOption begins (P file) (λ (start : List ℕ). file ≡ start) → file ≡ unwrap_or begins now
+bound_is_now None P now file step h = step h
+bound_is_now (Some start) P now file step h = h
+
+-- what a file may have is what may be left of it
+pub have_is_left : (es : List Event) (name : Name) (file : List ℕ) → MayHave es name file → MayBeLeft es name file
+have_is_left [] name file h = h
+have_is_left (Written s p b ∷ es) name file (old, have, e) = (old, have_is_left es name old have, write_by (is_about es s name) p b old file e)
+have_is_left (Torn s p b ∷ es) name file (old, have, e) = (old, have_is_left es name old have, e)
+have_is_left (Cut s n ∷ es) name file (old, have, e) = (old, have_is_left es name old have, cut_by (is_about es s name) n old file e)
+have_is_left (HalfCut s n ∷ es) name file (old, have, e) = (old, have_is_left es name old have, e)
+have_is_left (Synced s ∷ es) name file h =
+    elim (cases_Bool (is_about es s name)) [
+      | inl k ↦ at_true _ _ (is_about es s name) k h
+      | inr k ↦ at_false _ _ (is_about es s name) k (have_is_left es name file h)
     ]
-op_made (Torn s position bytes) slot old =
-    elim (s == slot) as (λ b. MatchBool b (WriteLeaves position bytes old (cond b (overlaid old position bytes) old)) (cond b (overlaid old position bytes) old ≡ old)) [
-      | true ↦ write_made position bytes old
-      | false ↦ refl
-    ]
-op_made (Cut s len) slot old =
-    elim (s == slot) as (λ b. MatchBool b ((cond b (take len old) old ≡ old) ⊎ (cond b (take len old) old ≡ take len old)) (cond b (take len old) old ≡ old)) [
-      | true ↦ inr refl
-      | false ↦ refl
-    ]
-op_made (Sync s) slot old = refl
-op_made (Out bytes) slot old = refl
+have_is_left (Put b ∷ es) name file h = have_is_left es name file h
+have_is_left (Bound s other bytes ∷ es) name file h =
+    bound_by (begun es other bytes name) (MayHave es name) (MayBeLeft es name) file (have_is_left es name file) h
 
 -- a file that is held is an outcome
 pub held_is_outcome : (es : List Event) (slot : ℕ) (file : List ℕ) → MayHold es slot file → IsOutcome es slot file
-held_is_outcome [] slot file h = h
-held_is_outcome (Made (Write s p b) ∷ es) slot file (was, held, e) =
-    (was, held_is_outcome es slot was held, subst (OpLeaves (Write s p b) slot was) (sym e) (op_made (Write s p b) slot was))
-held_is_outcome (Made (Torn s p b) ∷ es) slot file (was, held, e) =
-    (was, held_is_outcome es slot was held, subst (OpLeaves (Torn s p b) slot was) (sym e) (op_made (Torn s p b) slot was))
-held_is_outcome (Made (Cut s n) ∷ es) slot file (was, held, e) =
-    (was, held_is_outcome es slot was held, subst (OpLeaves (Cut s n) slot was) (sym e) (op_made (Cut s n) slot was))
-held_is_outcome (Made (Sync s) ∷ es) slot file (was, held, e) =
-    elim (cases_Bool (s == slot)) [
-      | inl k ↦ at_true _ _ (s == slot) k (subst (MayHold es slot) (sym e) held)
-      | inr k ↦ at_false _ _ (s == slot) k (held_is_outcome es slot file (subst (MayHold es slot) (sym e) held))
-    ]
-held_is_outcome (Made (Out b) ∷ es) slot file (was, held, e) = held_is_outcome es slot file (subst (MayHold es slot) (sym e) held)
-held_is_outcome (Half op ∷ es) slot file (was, held, e) = (was, held_is_outcome es slot was held, e)
-held_is_outcome (Bound s name bytes ∷ es) slot file h =
-    elim (cases_Bool (s == slot)) [
-      | inl k ↦ at_true _ _ (s == slot) k (MatchBool-at_true _ _ k h)
-      | inr k ↦ let rest : MatchBool (is_name (name_of es slot) name) (file ≡ []) (MayHold es slot file) = MatchBool-at_false _ _ k h in
-          at_false _ _ (s == slot) k (elim (cases_Bool (is_name (name_of es slot) name)) [
-            | inl j ↦ at_true _ _ (is_name (name_of es slot) name) j (MatchBool-at_true _ _ j rest)
-            | inr j ↦ at_false _ _ (is_name (name_of es slot) name) j (held_is_outcome es slot file (MatchBool-at_false _ _ j rest))
-          ])
-    ]
+held_is_outcome es slot file h = have_is_left es (goes_by es slot) file h
 
--- the file with every operation made may be held
+-- a file with every operation made is one that it may have
+pub now_is_had : (es : List Event) (name : Name) → MayHave es name (held_now es name)
+now_is_had [] name = refl
+now_is_had (Written s p b ∷ es) name = (held_now es name, now_is_had es name, refl)
+now_is_had (Torn s p b ∷ es) name = (held_now es name, now_is_had es name, write_by (is_about es s name) p b (held_now es name) _ refl)
+now_is_had (Cut s n ∷ es) name = (held_now es name, now_is_had es name, refl)
+now_is_had (HalfCut s n ∷ es) name = (held_now es name, now_is_had es name, cut_by (is_about es s name) n (held_now es name) _ refl)
+now_is_had (Synced s ∷ es) name = now_is_had es name
+now_is_had (Put b ∷ es) name = now_is_had es name
+now_is_had (Bound s other bytes ∷ es) name = bound_now (begun es other bytes name) (MayHave es name) (held_now es name) (now_is_had es name)
+
 pub now_is_held : (es : List Event) (slot : ℕ) → MayHold es slot (file_now es slot)
-now_is_held [] slot = refl
-now_is_held (Made op ∷ es) slot = (file_now es slot, now_is_held es slot, refl)
-now_is_held (Half op ∷ es) slot = (file_now es slot, now_is_held es slot, op_made op slot (file_now es slot))
-now_is_held (Bound s name bytes ∷ es) slot =
-    elim (cases_Bool (s == slot)) [
-      | inl k ↦ at_true _ _ (s == slot) k (cond-true (s == slot) bytes _ k)
-      | inr k ↦ at_false _ _ (s == slot) k (elim (cases_Bool (is_name (name_of es slot) name)) [
-        | inl j ↦ at_true _ _ (is_name (name_of es slot) name) j (cond-false (s == slot) bytes _ k ∙ cond-true (is_name (name_of es slot) name) [] (file_now es slot) j)
-        | inr j ↦ at_false _ _ (is_name (name_of es slot) name) j (subst (MayHold es slot)
-            (sym (cond-false (s == slot) bytes _ k ∙ cond-false (is_name (name_of es slot) name) [] (file_now es slot) j)) (now_is_held es slot))
-      ])
-    ]
+now_is_held es slot = now_is_had es (goes_by es slot)
 
 pub now_is_outcome : (es : List Event) (slot : ℕ) → IsOutcome es slot (file_now es slot)
 now_is_outcome es slot = held_is_outcome es slot (file_now es slot) (now_is_held es slot)
 
--- where no operation failed half way, one file is held
+-- where no operation failed half way, a file has one content
+pub sure_has_now : (es : List Event) (name : Name) (file : List ℕ) → is_sure es ≡ true → MayHave es name file → file ≡ held_now es name
+sure_has_now [] name file sure h = h
+sure_has_now (Written s p b ∷ es) name file sure (old, have, e) =
+    e ∙ ap (λ (x : List ℕ). cond (is_about es s name) (overlaid x p b) x) (sure_has_now es name old sure have)
+sure_has_now (Torn s p b ∷ es) name file sure h = cc
+sure_has_now (Cut s n ∷ es) name file sure (old, have, e) =
+    e ∙ ap (λ (x : List ℕ). cond (is_about es s name) (take n x) x) (sure_has_now es name old sure have)
+sure_has_now (HalfCut s n ∷ es) name file sure h = cc
+sure_has_now (Synced s ∷ es) name file sure h = sure_has_now es name file sure h
+sure_has_now (Put b ∷ es) name file sure h = sure_has_now es name file sure h
+sure_has_now (Bound s other bytes ∷ es) name file sure h =
+    bound_is_now (begun es other bytes name) (MayHave es name) (held_now es name) file (sure_has_now es name file sure) h
+
 pub sure_is_now : (es : List Event) (slot : ℕ) (file : List ℕ) → is_sure es ≡ true → MayHold es slot file → file ≡ file_now es slot
-sure_is_now [] slot file sure h = h
-sure_is_now (Made op ∷ es) slot file sure (was, held, e) = e ∙ ap (after_op op slot) (sure_is_now es slot was sure held)
-sure_is_now (Half op ∷ es) slot file sure h = cc
-sure_is_now (Bound s name bytes ∷ es) slot file sure h =
-    elim (cases_Bool (s == slot)) [
-      | inl k ↦ MatchBool-at_true _ _ k h ∙ sym (cond-true (s == slot) bytes _ k)
-      | inr k ↦ let rest : MatchBool (is_name (name_of es slot) name) (file ≡ []) (MayHold es slot file) = MatchBool-at_false _ _ k h in
-          elim (cases_Bool (is_name (name_of es slot) name)) [
-            | inl j ↦ MatchBool-at_true _ _ j rest ∙ sym (cond-false (s == slot) bytes _ k ∙ cond-true (is_name (name_of es slot) name) [] (file_now es slot) j)
-            | inr j ↦ sure_is_now es slot file sure (MatchBool-at_false _ _ j rest)
-                ∙ sym (cond-false (s == slot) bytes _ k ∙ cond-false (is_name (name_of es slot) name) [] (file_now es slot) j)
-          ]
-    ]
+sure_is_now es slot file sure h = sure_has_now es (goes_by es slot) file sure h
 
 -- one event more, for the outcomes of one slot
 
 pub write_step : (P Q : List ℕ → Type 0) (slot position : ℕ) (bytes : List ℕ) (es : List Event) → EachOutcome slot P es
-    → ((was file : List ℕ) → P was → WriteLeaves position bytes was file → Q file) → EachOutcome slot Q (Made (Write slot position bytes) ∷ es)
+    → ((was file : List ℕ) → P was → WriteLeaves position bytes was file → Q file) → EachOutcome slot Q (Written slot position bytes ∷ es)
 write_step P Q slot position bytes es each step file (was, outcome, leaves) =
-    step was file (each was outcome) (MatchBool-at_true _ _ (eq-eqb slot slot refl) leaves)
+    step was file (each was outcome) (MatchBool-at_true _ _ (about_own es slot) leaves)
 
 pub torn_step : (P Q : List ℕ → Type 0) (slot position : ℕ) (bytes : List ℕ) (es : List Event) → EachOutcome slot P es
-    → ((was file : List ℕ) → P was → WriteLeaves position bytes was file → Q file) → EachOutcome slot Q (Half (Torn slot position bytes) ∷ es)
+    → ((was file : List ℕ) → P was → WriteLeaves position bytes was file → Q file) → EachOutcome slot Q (Torn slot position bytes ∷ es)
 torn_step P Q slot position bytes es each step file (was, outcome, leaves) =
-    step was file (each was outcome) (MatchBool-at_true _ _ (eq-eqb slot slot refl) leaves)
+    step was file (each was outcome) (MatchBool-at_true _ _ (about_own es slot) leaves)
 
 cut_or_not : (Q : List ℕ → Type 0) (len : ℕ) (was file : List ℕ) → Q was → Q (take len was) → (file ≡ was) ⊎ (file ≡ take len was) → Q file
 cut_or_not Q len was file same shorter (inl e) = subst Q (sym e) same
 cut_or_not Q len was file same shorter (inr e) = subst Q (sym e) shorter
 
 pub cut_step : (P Q : List ℕ → Type 0) (slot len : ℕ) (es : List Event) → EachOutcome slot P es
-    → ((was : List ℕ) → P was → Q was) → ((was : List ℕ) → P was → Q (take len was)) → EachOutcome slot Q (Made (Cut slot len) ∷ es)
+    → ((was : List ℕ) → P was → Q was) → ((was : List ℕ) → P was → Q (take len was)) → EachOutcome slot Q (Cut slot len ∷ es)
 cut_step P Q slot len es each same shorter file (was, outcome, leaves) =
-    cut_or_not Q len was file (same was (each was outcome)) (shorter was (each was outcome)) (MatchBool-at_true _ _ (eq-eqb slot slot refl) leaves)
+    cut_or_not Q len was file (same was (each was outcome)) (shorter was (each was outcome)) (MatchBool-at_true _ _ (about_own es slot) leaves)
 
 pub half_cut_step : (P Q : List ℕ → Type 0) (slot len : ℕ) (es : List Event) → EachOutcome slot P es
-    → ((was : List ℕ) → P was → Q was) → ((was : List ℕ) → P was → Q (take len was)) → EachOutcome slot Q (Half (Cut slot len) ∷ es)
+    → ((was : List ℕ) → P was → Q was) → ((was : List ℕ) → P was → Q (take len was)) → EachOutcome slot Q (HalfCut slot len ∷ es)
 half_cut_step P Q slot len es each same shorter file (was, outcome, leaves) =
-    cut_or_not Q len was file (same was (each was outcome)) (shorter was (each was outcome)) (MatchBool-at_true _ _ (eq-eqb slot slot refl) leaves)
+    cut_or_not Q len was file (same was (each was outcome)) (shorter was (each was outcome)) (MatchBool-at_true _ _ (about_own es slot) leaves)
 
 -- A sync adds no outcome.
-pub sync_step : (P : List ℕ → Type 0) (slot s : ℕ) (es : List Event) → EachOutcome slot P es → EachOutcome slot P (Made (Sync s) ∷ es)
+pub sync_step : (P : List ℕ → Type 0) (slot s : ℕ) (es : List Event) → EachOutcome slot P es → EachOutcome slot P (Synced s ∷ es)
 sync_step P slot s es each file h =
-    elim (cases_Bool (s == slot)) [
+    elim (cases_Bool (is_about es s (goes_by es slot))) [
       | inl k ↦ each file (held_is_outcome es slot file (MatchBool-at_true _ _ k h))
       | inr k ↦ each file (MatchBool-at_false _ _ k h)
     ]
 
 -- It leaves exactly what may be held.
-pub sync_settles : (P : List ℕ → Type 0) (slot : ℕ) (es : List Event) → EachHeld slot P es → EachOutcome slot P (Made (Sync slot) ∷ es)
-sync_settles P slot es each file h = each file (MatchBool-at_true _ _ (eq-eqb slot slot refl) h)
+pub sync_settles : (P : List ℕ → Type 0) (slot : ℕ) (es : List Event) → EachHeld slot P es → EachOutcome slot P (Synced slot ∷ es)
+sync_settles P slot es each file h = each file (MatchBool-at_true _ _ (about_own es slot) h)
 
 -- Where no operation failed half way, it leaves exactly the file now.
-pub sync_leaves_now : (slot : ℕ) (es : List Event) → is_sure es ≡ true → EachOutcome slot (λ file. file ≡ file_now es slot) (Made (Sync slot) ∷ es)
-sync_leaves_now slot es sure file h = sure_is_now es slot file sure (MatchBool-at_true _ _ (eq-eqb slot slot refl) h)
+pub sync_leaves_now : (slot : ℕ) (es : List Event) → is_sure es ≡ true → EachOutcome slot (λ file. file ≡ file_now es slot) (Synced slot ∷ es)
+sync_leaves_now slot es sure file h = sure_is_now es slot file sure (MatchBool-at_true _ _ (about_own es slot) h)
 
-pub put_step : (P : List ℕ → Type 0) (slot : ℕ) (bytes : List ℕ) (es : List Event) → EachOutcome slot P es → EachOutcome slot P (Made (Out bytes) ∷ es)
+pub put_step : (P : List ℕ → Type 0) (slot : ℕ) (bytes : List ℕ) (es : List Event) → EachOutcome slot P es → EachOutcome slot P (Put bytes ∷ es)
 put_step P slot bytes es each file h = each file h
 
 -- operations of other slots don't matter
-unmoved : (P : List ℕ → Type 0) (X : Type 0) (s slot : ℕ) (was file : List ℕ) → (s ≡ slot → ⊥) → P was → MatchBool (s == slot) X (file ≡ was) → P file
-unmoved P X s slot was file apart held leaves = subst P (sym (MatchBool-at_false _ _ (ne_eqb s slot apart) leaves)) held
+unmoved : (P : List ℕ → Type 0) (X : Type 0) (es : List Event) (s slot : ℕ) (was file : List ℕ) → (s ≡ slot → ⊥) → P was
+    → MatchBool (is_about es s (goes_by es slot)) X (file ≡ was) → P file
+unmoved P X es s slot was file apart held leaves = subst P (sym (MatchBool-at_false _ _ (about_other es s slot apart) leaves)) held
 
 pub other_write_step : (P : List ℕ → Type 0) (slot s position : ℕ) (bytes : List ℕ) (es : List Event) → (s ≡ slot → ⊥)
-    → EachOutcome slot P es → EachOutcome slot P (Made (Write s position bytes) ∷ es)
-other_write_step P slot s position bytes es apart each file (was, outcome, leaves) = unmoved P _ s slot was file apart (each was outcome) leaves
+    → EachOutcome slot P es → EachOutcome slot P (Written s position bytes ∷ es)
+other_write_step P slot s position bytes es apart each file (was, outcome, leaves) = unmoved P _ es s slot was file apart (each was outcome) leaves
 
 pub other_torn_step : (P : List ℕ → Type 0) (slot s position : ℕ) (bytes : List ℕ) (es : List Event) → (s ≡ slot → ⊥)
-    → EachOutcome slot P es → EachOutcome slot P (Half (Torn s position bytes) ∷ es)
-other_torn_step P slot s position bytes es apart each file (was, outcome, leaves) = unmoved P _ s slot was file apart (each was outcome) leaves
+    → EachOutcome slot P es → EachOutcome slot P (Torn s position bytes ∷ es)
+other_torn_step P slot s position bytes es apart each file (was, outcome, leaves) = unmoved P _ es s slot was file apart (each was outcome) leaves
 
 pub other_cut_step : (P : List ℕ → Type 0) (slot s len : ℕ) (es : List Event) → (s ≡ slot → ⊥)
-    → EachOutcome slot P es → EachOutcome slot P (Made (Cut s len) ∷ es)
-other_cut_step P slot s len es apart each file (was, outcome, leaves) = unmoved P _ s slot was file apart (each was outcome) leaves
+    → EachOutcome slot P es → EachOutcome slot P (Cut s len ∷ es)
+other_cut_step P slot s len es apart each file (was, outcome, leaves) = unmoved P _ es s slot was file apart (each was outcome) leaves
 
 pub other_half_cut_step : (P : List ℕ → Type 0) (slot s len : ℕ) (es : List Event) → (s ≡ slot → ⊥)
-    → EachOutcome slot P es → EachOutcome slot P (Half (Cut s len) ∷ es)
-other_half_cut_step P slot s len es apart each file (was, outcome, leaves) = unmoved P _ s slot was file apart (each was outcome) leaves
+    → EachOutcome slot P es → EachOutcome slot P (HalfCut s len ∷ es)
+other_half_cut_step P slot s len es apart each file (was, outcome, leaves) = unmoved P _ es s slot was file apart (each was outcome) leaves
 
 -- the same for what may be held
 
@@ -230,27 +231,27 @@ pub held_from_now : (P : List ℕ → Type 0) (slot : ℕ) (es : List Event) →
 held_from_now P slot es sure now file h = subst P (sym (sure_is_now es slot file sure h)) now
 
 pub held_write : (P Q : List ℕ → Type 0) (slot position : ℕ) (bytes : List ℕ) (es : List Event) → EachHeld slot P es
-    → ((was : List ℕ) → P was → Q (overlaid was position bytes)) → EachHeld slot Q (Made (Write slot position bytes) ∷ es)
+    → ((was : List ℕ) → P was → Q (overlaid was position bytes)) → EachHeld slot Q (Written slot position bytes ∷ es)
 held_write P Q slot position bytes es each step file (was, held, e) =
-    subst Q (sym (e ∙ cond-true (slot == slot) (overlaid was position bytes) was (eq-eqb slot slot refl))) (step was (each was held))
+    subst Q (sym (e ∙ cond-true (is_about es slot (goes_by es slot)) (overlaid was position bytes) was (about_own es slot))) (step was (each was held))
 
 pub held_cut : (P Q : List ℕ → Type 0) (slot len : ℕ) (es : List Event) → EachHeld slot P es
-    → ((was : List ℕ) → P was → Q (take len was)) → EachHeld slot Q (Made (Cut slot len) ∷ es)
+    → ((was : List ℕ) → P was → Q (take len was)) → EachHeld slot Q (Cut slot len ∷ es)
 held_cut P Q slot len es each step file (was, held, e) =
-    subst Q (sym (e ∙ cond-true (slot == slot) (take len was) was (eq-eqb slot slot refl))) (step was (each was held))
+    subst Q (sym (e ∙ cond-true (is_about es slot (goes_by es slot)) (take len was) was (about_own es slot))) (step was (each was held))
 
-pub held_sync : (P : List ℕ → Type 0) (slot s : ℕ) (es : List Event) → EachHeld slot P es → EachHeld slot P (Made (Sync s) ∷ es)
-held_sync P slot s es each file (was, held, e) = subst P (sym e) (each was held)
+pub held_sync : (P : List ℕ → Type 0) (slot s : ℕ) (es : List Event) → EachHeld slot P es → EachHeld slot P (Synced s ∷ es)
+held_sync P slot s es each file h = each file h
 
-pub held_put : (P : List ℕ → Type 0) (slot : ℕ) (bytes : List ℕ) (es : List Event) → EachHeld slot P es → EachHeld slot P (Made (Out bytes) ∷ es)
-held_put P slot bytes es each file (was, held, e) = subst P (sym e) (each was held)
+pub held_put : (P : List ℕ → Type 0) (slot : ℕ) (bytes : List ℕ) (es : List Event) → EachHeld slot P es → EachHeld slot P (Put bytes ∷ es)
+held_put P slot bytes es each file h = each file h
 
 pub held_other_write : (P : List ℕ → Type 0) (slot s position : ℕ) (bytes : List ℕ) (es : List Event) → (s ≡ slot → ⊥)
-    → EachHeld slot P es → EachHeld slot P (Made (Write s position bytes) ∷ es)
+    → EachHeld slot P es → EachHeld slot P (Written s position bytes ∷ es)
 held_other_write P slot s position bytes es apart each file (was, held, e) =
-    subst P (sym (e ∙ cond-false (s == slot) (overlaid was position bytes) was (ne_eqb s slot apart))) (each was held)
+    subst P (sym (e ∙ cond-false (is_about es s (goes_by es slot)) (overlaid was position bytes) was (about_other es s slot apart))) (each was held)
 
 pub held_other_cut : (P : List ℕ → Type 0) (slot s len : ℕ) (es : List Event) → (s ≡ slot → ⊥)
-    → EachHeld slot P es → EachHeld slot P (Made (Cut s len) ∷ es)
+    → EachHeld slot P es → EachHeld slot P (Cut s len ∷ es)
 held_other_cut P slot s len es apart each file (was, held, e) =
-    subst P (sym (e ∙ cond-false (s == slot) (take len was) was (ne_eqb s slot apart))) (each was held)
+    subst P (sym (e ∙ cond-false (is_about es s (goes_by es slot)) (take len was) was (about_other es s slot apart))) (each was held)

@@ -1,53 +1,153 @@
 -- How the words on a world change by each call, for callers.
-use Rattle.std.proofs.Common.{◌≡◌, ℕ, ◌==◌, true, false, cond, List, [], ◌∷◌, ◌++◌, take, Option, Some, None, refl, sym, ◌∙◌, ap, inl, inr}
+use Rattle.std.proofs.Common.{◌≡◌, ◌⊎◌, ℕ, ◌+◌, ◌≤◌, ◌<◌, ◌==◌, Bool, true, false, cond, List, [], ◌∷◌, ◌++◌, length, take, drop, get_or, Option, Some, None, Result, Ok, Err, OnOk, unwrap_or, refl, sym, ◌∙◌, ap, subst, inl, inr, arith, append_assoc}
+use Rattle.std.specs.Prelude.{◌&&◌, not, MatchOption}
 use Rattle.std.specs.Str.{bytes_eq}
-use Rattle.std.proofs.lemmas.Bool.{cases_Bool, cond-true, cond-false, eq-eqb, ne_eqb, false_from_ne_true}
-use Rattle.std.proofs.lemmas.List.{take-append-drop}
+use Rattle.std.proofs.lemmas.Bool.{cases_Bool, cond-true, cond-false, eq-eqb, ne_eqb, both_ways, false_from_ne_true}
+use Rattle.std.proofs.lemmas.List.{append-nil, take-append-drop}
 use Rattle.std.proofs.lemmas.Slice.Eq.{bytes_eq-Decides}
-use Rattle.cckd_shelf.specs.World.{World, Bound, IsTied, is_name, name_of, file_of, held_by, is_sure, ops_of, output_of, after_bind, after_take}
+use Rattle.cckd_shelf.specs.Events.{Event, Written, Torn, Cut, HalfCut, Synced, Put, Bound, Name, Named, Nameless, is_name, name_of, was_bound, named_by, goes_by, is_about, begun, held_now, file_now, is_sure, ops_of, output_of}
+use Rattle.cckd_shelf.specs.Files.{overlaid}
+use Rattle.cckd_shelf.specs.World.{World, IsSure, IsTied, file_of, held_by, after_bind, after_write, after_cut, after_take}
+use Rattle.cckd_shelf.specs.Outcomes.{MayBeLeft, IsOutcome, EachOutcome}
+use Rattle.cckd_shelf.proofs.NameLemmas.{same_text, texts_differ, text_is, about_own, about_other, name_was_bound}
 
 is_own : (o : Option (List ℕ)) (name : List ℕ) → is_name o name ≡ true → o ≡ Some name
 is_own None name e = cc
 is_own (Some own) name e = let same : own ≡ name = (bytes_eq-Decides own name).0 e in ap (λ (n : List ℕ). Some n) same
 
+-- another text is not a slot's name
+pub not_named : (own name : List ℕ) → (own ≡ name → ⊥) → is_name (Some own) name ≡ false
+not_named own name apart = false_from_ne_true (bytes_eq own name) (λ k. apart ((bytes_eq-Decides own name).0 k))
+
+-- a slot that has a name holds what the name holds
+pub tied_slot : (w : World) (slot : ℕ) (name : List ℕ) → IsTied w → name_of w.events slot ≡ Some name → held_by w name ≡ file_of w slot
+tied_slot w slot name tied e =
+    tied.named name (name_was_bound w.events slot name e) ∙ ap (λ (o : Option (List ℕ)). held_now w.events (named_by slot o)) (sym e)
+
+-- a slot that is bound has the name, and goes by it
+own_name : (es : List Event) (slot : ℕ) (name bytes : List ℕ) → name_of (Bound slot name bytes ∷ es) slot ≡ Some name
+own_name es slot name bytes = cond-true (slot == slot) (Some name) _ (eq-eqb slot slot refl)
+
+own_goes : (es : List Event) (slot : ℕ) (name bytes : List ℕ) → goes_by (Bound slot name bytes ∷ es) slot ≡ Named name
+own_goes es slot name bytes = ap (named_by slot) (own_name es slot name bytes)
+
+first_begins : (es : List Event) (name bytes : List ℕ) → was_bound es name ≡ false → begun es name bytes (Named name) ≡ Some bytes
+first_begins es name bytes e =
+    cond-true (bytes_eq name name && not (was_bound es name)) (Some bytes) None
+    (ap (λ (b : Bool). b && not (was_bound es name)) (same_text name) ∙ ap not e)
+
+again_begins : (es : List Event) (name bytes : List ℕ) → was_bound es name ≡ true → begun es name bytes (Named name) ≡ None
+again_begins es name bytes e =
+    cond-false (bytes_eq name name && not (was_bound es name)) (Some bytes) None
+    (ap (λ (b : Bool). b && not (was_bound es name)) (same_text name) ∙ ap not e)
+
+-- The first bind of a name brings its bytes in.
+pub first_bind : (slot : ℕ) (name bytes : List ℕ) (es : List Event) → was_bound es name ≡ false
+    → EachOutcome slot (λ file. file ≡ bytes) (Bound slot name bytes ∷ es)
+first_bind slot name bytes es e file h =
+    let left : MayBeLeft (Bound slot name bytes ∷ es) (Named name) file = subst (λ (n : Name). MayBeLeft (Bound slot name bytes ∷ es) n file) (own_goes es slot name bytes) h in
+    subst (λ (o : Option (List ℕ)). MatchOption o (MayBeLeft es (Named name) file) (λ (start : List ℕ). file ≡ start)) (first_begins es name bytes e) left
+
+-- Any later one leaves what was open of it.
+pub later_bind : (slot : ℕ) (name bytes : List ℕ) (es : List Event) → was_bound es name ≡ true
+    → EachOutcome slot (MayBeLeft es (Named name)) (Bound slot name bytes ∷ es)
+later_bind slot name bytes es e file h =
+    let left : MayBeLeft (Bound slot name bytes ∷ es) (Named name) file = subst (λ (n : Name). MayBeLeft (Bound slot name bytes ∷ es) n file) (own_goes es slot name bytes) h in
+    subst (λ (o : Option (List ℕ)). MatchOption o (MayBeLeft es (Named name) file) (λ (start : List ℕ). file ≡ start)) (again_begins es name bytes e) left
+
+-- and back: all that was open is an outcome again
+pub bound_again : (slot : ℕ) (name bytes : List ℕ) (es : List Event) (file : List ℕ) → was_bound es name ≡ true → MayBeLeft es (Named name) file
+    → IsOutcome (Bound slot name bytes ∷ es) slot file
+bound_again slot name bytes es file e h =
+    subst (λ (n : Name). MayBeLeft (Bound slot name bytes ∷ es) n file) (sym (own_goes es slot name bytes))
+    (subst (λ (o : Option (List ℕ)). MatchOption o (MayBeLeft es (Named name) file) (λ (start : List ℕ). file ≡ start)) (sym (again_begins es name bytes e)) h)
+
+named_begun : (b : Bool) (name other bytes file : List ℕ) (bound : Bool) (rest : Type 0) → b ≡ bytes_eq name other
+    → MatchOption (cond (b && not bound) (Some bytes) None) rest (λ (start : List ℕ). file ≡ start)
+    → ((name ≡ other) × (bound ≡ false) × (file ≡ bytes)) ⊎ rest
+named_begun false name other bytes file bound rest e h = inr h
+named_begun true name other bytes file false rest e h = inl (text_is name other (sym e), refl, h)
+named_begun true name other bytes file true rest e h = inr h
+
+-- what a bind leaves of the file of any name: the bytes that it brought in, or what was open of it
+pub bind_left : (slot : ℕ) (name bytes : List ℕ) (es : List Event) (other file : List ℕ) → MayBeLeft (Bound slot name bytes ∷ es) (Named other) file
+    → ((name ≡ other) × (was_bound es other ≡ false) × (file ≡ bytes)) ⊎ MayBeLeft es (Named other) file
+bind_left slot name bytes es other file h = named_begun (bytes_eq name other) name other bytes file (was_bound es other) (MayBeLeft es (Named other) file) refl h
+
+bound_holds : (es : List Event) (slot : ℕ) (name bytes : List ℕ) → (was_bound es name ≡ true → bytes ≡ held_now es (Named name))
+    → file_now (Bound slot name bytes ∷ es) slot ≡ bytes
+bound_holds es slot name bytes same =
+    ap (held_now (Bound slot name bytes ∷ es)) (own_goes es slot name bytes)
+    ∙ elim (cases_Bool (was_bound es name)) [
+      | inl k ↦ ap (λ (o : Option (List ℕ)). unwrap_or o (held_now es (Named name))) (again_begins es name bytes k) ∙ sym (same k)
+      | inr k ↦ ap (λ (o : Option (List ℕ)). unwrap_or o (held_now es (Named name))) (first_begins es name bytes k)
+    ]
+
 -- After a slot got the file of a name, it holds what the name holds. It need not be known whether the slot had
 -- the name before.
-pub bind_holds : (w : World) (slot : ℕ) (name : List ℕ) → IsTied w → file_of (after_bind w slot name) slot ≡ held_by w name
+pub bind_holds : (w : World) (slot : ℕ) (name : List ℕ) → IsTied w → file_of (after_bind slot name w) slot ≡ held_by w name
 bind_holds w slot name tied =
     elim (cases_Bool (is_name (name_of w.events slot) name)) [
       | inl k ↦ ap (λ (x : World). file_of x slot) (cond-true (is_name (name_of w.events slot) name) w _ k)
-          ∙ sym (tied.named slot name (is_own (name_of w.events slot) name k))
+          ∙ sym (tied_slot w slot name tied (is_own (name_of w.events slot) name k))
       | inr k ↦ ap (λ (x : World). file_of x slot) (cond-false (is_name (name_of w.events slot) name) w (record w { events = Bound slot name (held_by w name) ∷ w.events }) k)
-          ∙ cond-true (slot == slot) (held_by w name) _ (eq-eqb slot slot refl)
+          ∙ bound_holds w.events slot name (held_by w name) (tied.named name)
     ]
 
 -- the slot then has the name
-pub bind_names : (w : World) (slot : ℕ) (name : List ℕ) → name_of (after_bind w slot name).events slot ≡ Some name
+pub bind_names : (w : World) (slot : ℕ) (name : List ℕ) → name_of (after_bind slot name w).events slot ≡ Some name
 bind_names w slot name =
     elim (cases_Bool (is_name (name_of w.events slot) name)) [
       | inl k ↦ ap (λ (x : World). name_of x.events slot) (cond-true (is_name (name_of w.events slot) name) w _ k) ∙ is_own (name_of w.events slot) name k
       | inr k ↦ ap (λ (x : World). name_of x.events slot) (cond-false (is_name (name_of w.events slot) name) w (record w { events = Bound slot name (held_by w name) ∷ w.events }) k)
-          ∙ cond-true (slot == slot) (Some name) _ (eq-eqb slot slot refl)
+          ∙ own_name w.events slot name (held_by w name)
     ]
 
 -- what a bind of one slot leaves of another that has another name
+
+other_name : (es : List Event) (slot other : ℕ) (name bytes : List ℕ) → (slot ≡ other → ⊥) → is_name (name_of es other) name ≡ false
+    → name_of (Bound slot name bytes ∷ es) other ≡ name_of es other
+other_name es slot other name bytes apart free =
+    cond-false (slot == other) (Some name) _ (ne_eqb slot other apart) ∙ cond-false (is_name (name_of es other) name) None (name_of es other) free
+
+other_begins : (es : List Event) (other : ℕ) (name bytes : List ℕ) (own : Option (List ℕ)) → name_of es other ≡ own → is_name own name ≡ false
+    → begun es name bytes (named_by other own) ≡ None
+other_begins es other name bytes None e free = cond-false (is_name (name_of es other) name) (Some []) None (ap (λ (o : Option (List ℕ)). is_name o name) e ∙ free)
+other_begins es other name bytes (Some own) e free =
+    cond-false (bytes_eq name own && not (was_bound es own)) (Some bytes) None
+    (ap (λ (b : Bool). b && not (was_bound es own)) (texts_differ name own (λ same. both_ways (bytes_eq own name) free ((bytes_eq-Decides own name).1 (sym same)))))
+
+-- its outcomes stay,
+pub other_bind_step : (P : List ℕ → Type 0) (slot other : ℕ) (name bytes : List ℕ) (es : List Event) → (slot ≡ other → ⊥) → is_name (name_of es other) name ≡ false
+    → EachOutcome other P es → EachOutcome other P (Bound slot name bytes ∷ es)
+other_bind_step P slot other name bytes es apart free each file h =
+    let left : MayBeLeft (Bound slot name bytes ∷ es) (goes_by es other) file =
+    subst (λ (o : Option (List ℕ)). MayBeLeft (Bound slot name bytes ∷ es) (named_by other o) file) (other_name es slot other name bytes apart free) h in
+    each file (subst (λ (o : Option (List ℕ)). MatchOption o (MayBeLeft es (goes_by es other) file) (λ (start : List ℕ). file ≡ start))
+    (other_begins es other name bytes (name_of es other) refl free) left)
+
+other_file : (es : List Event) (slot other : ℕ) (name bytes : List ℕ) → (slot ≡ other → ⊥) → is_name (name_of es other) name ≡ false
+    → file_now (Bound slot name bytes ∷ es) other ≡ file_now es other
+other_file es slot other name bytes apart free =
+    ap (λ (o : Option (List ℕ)). held_now (Bound slot name bytes ∷ es) (named_by other o)) (other_name es slot other name bytes apart free)
+    ∙ ap (λ (o : Option (List ℕ)). unwrap_or o (file_now es other)) (other_begins es other name bytes (name_of es other) refl free)
+
+-- and so do its file and its name
 pub record Leaves (w new : World) (other : ℕ) : Type 0 where
   pub file : file_of new other ≡ file_of w other
   pub name : name_of new.events other ≡ name_of w.events other
 
 pub bind_leaves : (w : World) (slot other : ℕ) (name : List ℕ) → (slot ≡ other → ⊥) → is_name (name_of w.events other) name ≡ false
-    → Leaves w (after_bind w slot name) other
+    → Leaves w (after_bind slot name w) other
 bind_leaves w slot other name apart free =
     elim (cases_Bool (is_name (name_of w.events slot) name)) [
-      | inl k ↦ let same : after_bind w slot name ≡ w = cond-true (is_name (name_of w.events slot) name) w _ k in
+      | inl k ↦ let same : after_bind slot name w ≡ w = cond-true (is_name (name_of w.events slot) name) w _ k in
           record { file = ap (λ (x : World). file_of x other) same; name = ap (λ (x : World). name_of x.events other) same }
       | inr k ↦ let new : World = record w { events = Bound slot name (held_by w name) ∷ w.events } in
-          let same : after_bind w slot name ≡ new = cond-false (is_name (name_of w.events slot) name) w new k in
+          let same : after_bind slot name w ≡ new = cond-false (is_name (name_of w.events slot) name) w new k in
           record {
-            file = ap (λ (x : World). file_of x other) same
-                ∙ (cond-false (slot == other) (held_by w name) _ (ne_eqb slot other apart) ∙ cond-false (is_name (name_of w.events other) name) [] (file_of w other) free);
-            name = ap (λ (x : World). name_of x.events other) same
-                ∙ (cond-false (slot == other) (Some name) _ (ne_eqb slot other apart) ∙ cond-false (is_name (name_of w.events other) name) None (name_of w.events other) free);
+            file = ap (λ (x : World). file_of x other) same ∙ other_file w.events slot other name (held_by w name) apart free;
+            name = ap (λ (x : World). name_of x.events other) same ∙ other_name w.events slot other name (held_by w name) apart free;
           }
     ]
 
@@ -59,17 +159,45 @@ pub record BindKeeps (w new : World) : Type 0 where
   pub ops : ops_of new.events ≡ ops_of w.events
   pub output : output_of new.events ≡ output_of w.events
 
-pub bind_keeps : (w : World) (slot : ℕ) (name : List ℕ) → BindKeeps w (after_bind w slot name)
+pub bind_keeps : (w : World) (slot : ℕ) (name : List ℕ) → BindKeeps w (after_bind slot name w)
 bind_keeps w slot name =
     elim (is_name (name_of w.events slot) name) as (λ b. BindKeeps w (cond b w (record w { events = Bound slot name (held_by w name) ∷ w.events }))) [
       | true ↦ record { files = refl; script = refl; sure = refl; ops = refl; output = refl }
       | false ↦ record { files = refl; script = refl; sure = refl; ops = refl; output = refl }
     ]
 
--- another text is not a slot's name
-pub not_named : (own name : List ℕ) → (own ≡ name → ⊥) → is_name (Some own) name ≡ false
-not_named own name apart = false_from_ne_true (bytes_eq own name) (λ k. apart ((bytes_eq-Decides own name).0 k))
+-- the file in the slot after a write of it, and after a cut
+pub now_wrote : (slot position : ℕ) (bytes : List ℕ) (w new : World) → new ≡ after_write slot position bytes w → file_of new slot ≡ overlaid (file_of w slot) position bytes
+now_wrote slot position bytes w new e =
+    ap (λ (x : World). file_of x slot) e
+    ∙ cond-true (is_about w.events slot (goes_by w.events slot)) (overlaid (file_of w slot) position bytes) (file_of w slot) (about_own w.events slot)
+
+pub now_cut : (slot len : ℕ) (w new : World) → new ≡ after_cut slot len w → file_of new slot ≡ take len (file_of w slot)
+now_cut slot len w new e =
+    ap (λ (x : World). file_of x slot) e ∙ cond-true (is_about w.events slot (goes_by w.events slot)) (take len (file_of w slot)) (file_of w slot) (about_own w.events slot)
+
+-- no operation failed half way yet
+pub sure_wrote : (slot position : ℕ) (bytes : List ℕ) (w new : World) → new ≡ after_write slot position bytes w → IsSure w → IsSure new
+sure_wrote slot position bytes w new e h = subst IsSure (sym e) h
+
+-- what is put more
+pub output_grows : (newer old : List Event) → (more : List ℕ) × (output_of (newer ++ old) ≡ output_of old ++ more)
+output_grows [] old = ([], sym (append-nil (output_of old)))
+output_grows (Written s p b ∷ newer) old = output_grows newer old
+output_grows (Torn s p b ∷ newer) old = output_grows newer old
+output_grows (Cut s n ∷ newer) old = output_grows newer old
+output_grows (HalfCut s n ∷ newer) old = output_grows newer old
+output_grows (Synced s ∷ newer) old = output_grows newer old
+output_grows (Put bytes ∷ newer) old =
+    let rest = output_grows newer old in
+    (rest.0 ++ bytes, ap (λ (s : List ℕ). s ++ bytes) rest.1 ∙ append_assoc (output_of old) rest.0 bytes)
+output_grows (Bound s name bytes ∷ newer) old = output_grows newer old
 
 -- the script is what was taken, and what is left
-pub take_splits : (w : World) (n : ℕ) → take n w.script ++ (after_take w n).script ≡ w.script
+pub take_splits : (w : World) (n : ℕ) → take n w.script ++ (after_take n w).script ≡ w.script
 take_splits w n = take-append-drop n w.script
+
+-- what follows of what an Ok gives
+pub on_ok : {V E : Type 0} (A B : Type 0) (r : Result V E) → (A → B) → OnOk r A → OnOk r B
+on_ok A B (Ok v) step h = step h
+on_ok A B (Err e) step h = h

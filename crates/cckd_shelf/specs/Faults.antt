@@ -1,9 +1,12 @@
--- Which calls fail, and what that does to the counts.
-use Rattle.std.specs.Prelude.{ℕ, ◌≡◌, ◌+◌, ◌-◌, ◌^◌, ◌≤◌, min, Result, OnErr}
-use Rattle.cckd_shelf.specs.declared.fault.Failed.{Failed}
+-- How often calls have failed, by kind.
+use Rattle.std.specs.Prelude.{ℕ, ◌≡◌, ◌+◌, ◌-◌, ◌^◌, ◌≤◌, min}
 use Rattle.cckd_shelf.specs.declared.fault.Faults.{Faults}
 pub use Rattle.cckd_shelf.specs.declared.fault.Kind.{Kind}
 pub use Rattle.cckd_shelf.specs.declared.fault.Kind.TheVariants.{Reads, Writes, Syncs, Takes, Puts}
+
+-- nothing failed yet
+abbrev pub no_faults : Faults
+no_faults = record { reads = 0; writes = 0; syncs = 0; takes = 0; puts = 0 }
 
 -- how many calls of a kind have failed
 abbrev pub count : Kind → Faults → ℕ
@@ -37,19 +40,7 @@ with_count Syncs n f = record f { syncs = n }
 with_count Takes n f = record f { takes = n }
 with_count Puts n f = record f { puts = n }
 
--- a call of this kind failed
+-- A call of this kind failed: its count rose by one, or stands at the last value, and the others stay.
 pub record Raises (kind : Kind) (old new : Faults) : Type 0 where
   pub fell : NoneFell old new
   pub counts : new ≡ with_count kind (min (count kind old + 1) (2 ^ 64 - 1)) old
-
--- what a call of this kind does to the counts: none falls, the others stay, and its own rose where it failed
-pub record Fails {T : Type 0} (kind : Kind) (result : Result T Failed) (old new : Faults) : Type 0 where
-  pub fell : NoneFell old new
-  pub others : new ≡ with_count kind (count kind new) old
-  pub rose : OnErr result (Rose (count kind old) (count kind new))
-  pub last : count kind old ≤ 2 ^ 64 - 1 → count kind new ≤ 2 ^ 64 - 1
-
--- the count of calls rose by at most one
-pub record Called (old new : ℕ) : Type 0 where
-  pub fell : old ≤ new
-  pub once : new ≤ old + 1

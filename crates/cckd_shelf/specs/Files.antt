@@ -1,7 +1,5 @@
--- The bytes of a file, and what an operation makes of them.
-use Rattle.std.specs.Prelude.{ℕ, ◌+◌, ◌-◌, ◌==◌, if◌then◌else◌, List, ◌++◌, length, take, drop, replicate}
-use Rattle.cckd_shelf.specs.declared.op.Op.{Op}
-use Rattle.cckd_shelf.specs.declared.op.Op.TheVariants.{Write, Torn, Cut, Sync, Out}
+-- The bytes of a file, and what a write makes of them.
+use Rattle.std.specs.Prelude.{ℕ, ◌+◌, ◌-◌, List, ◌++◌, length, take, drop, replicate}
 
 -- n bytes from a position on
 abbrev pub bytes_at : List ℕ → ℕ → ℕ → List ℕ
@@ -11,11 +9,3 @@ bytes_at file position n = take n (drop position file)
 unfoldable pub overlaid : List ℕ → ℕ → List ℕ → List ℕ
 overlaid file position bytes =
     take position (file ++ replicate (position - length file) 0) ++ (bytes ++ drop (position + length bytes) file)
-
--- what a slot's file is after an operation that was made
-abbrev pub after_op : Op → ℕ → List ℕ → List ℕ
-after_op (Write slot position bytes) s file = if slot == s then overlaid file position bytes else file
-after_op (Torn slot position bytes) s file = if slot == s then overlaid file position bytes else file
-after_op (Cut slot len) s file = if slot == s then take len file else file
-after_op (Sync slot) s file = file
-after_op (Out bytes) s file = file

@@ -1,9 +1,6 @@
-pub mod Counts
+pub mod Events
 pub mod Faults
 pub mod Files
-pub mod Held
-pub mod Images
-pub mod Inside
-pub mod Memory
 pub mod Outcomes
+pub mod Seen
 pub mod World

@@ -1,9 +1,7 @@
--- What a stop may leave of the files. Each slot is by itself. What was synced stays.
-use Rattle.std.specs.Prelude.{ℕ, ◌≡◌, ◌⊎◌, ◌+◌, ◌%◌, ◌<◌, ◌≤◌, ◌==◌, max, List, [], ◌∷◌, ◌++◌, length, take, slice_index, MatchBool}
-use Rattle.cckd_shelf.specs.declared.op.Op.{Op}
-use Rattle.cckd_shelf.specs.declared.op.Op.TheVariants.{Write, Torn, Cut, Sync, Out}
-use Rattle.cckd_shelf.specs.Files.{overlaid, after_op}
-use Rattle.cckd_shelf.specs.World.{Event, Made, Half, Bound, is_name, name_of}
+-- What a stop may leave of the files. Each file is by itself, and goes by its name. What was synced stays.
+use Rattle.std.specs.Prelude.{ℕ, ◌≡◌, ◌⊎◌, ◌+◌, ◌%◌, ◌<◌, ◌≤◌, if◌then◌else◌, max, List, [], ◌∷◌, ◌++◌, length, take, slice_index, MatchBool, MatchOption}
+use Rattle.cckd_shelf.specs.Files.{overlaid}
+use Rattle.cckd_shelf.specs.Events.{Event, Written, Torn, Cut, HalfCut, Synced, Put, Bound, Name, goes_by, is_about, begun}
 
 -- the bytes lie inside one sector of 512 bytes
 abbrev pub IsInSector : ℕ → ℕ → Type 0
@@ -18,39 +16,51 @@ pub record WriteLeaves (position : ℕ) (bytes old new : List ℕ) : Type 0 wher
   pub no_longer : length new ≤ max (length old) (position + length bytes)
   pub whole : IsInSector position (length bytes) → (new ≡ old) ⊎ (new ≡ overlaid old position bytes)
 
--- what an operation that isn't synced leaves of a slot's file
-abbrev pub OpLeaves : Op → ℕ → List ℕ → List ℕ → Type 0
-OpLeaves (Write s position bytes) slot old new = MatchBool (s == slot) (WriteLeaves position bytes old new) (new ≡ old)
-OpLeaves (Torn s position bytes) slot old new = MatchBool (s == slot) (WriteLeaves position bytes old new) (new ≡ old)
-OpLeaves (Cut s len) slot old new = MatchBool (s == slot) ((new ≡ old) ⊎ (new ≡ take len old)) (new ≡ old)
-OpLeaves (Sync s) slot old new = new ≡ old
-OpLeaves (Out bytes) slot old new = new ≡ old
+-- what a cut that isn't synced leaves
+abbrev pub CutLeaves : ℕ → List ℕ → List ℕ → Type 0
+CutLeaves len old new = (new ≡ old) ⊎ (new ≡ take len old)
 
--- The slot may hold this file while nothing has stopped. Where no operation failed half way, that is one file, the
--- one with every operation made.
+-- The file of a name may hold these bytes while nothing has stopped. Where no operation failed half way, those are
+-- the bytes with every operation made.
+abbrev pub MayHave : List Event → Name → List ℕ → Type 0
+MayHave [] name file = file ≡ []
+MayHave (Written slot position bytes ∷ earlier) name file =
+    (old : List ℕ) × MayHave earlier name old × (file ≡ (if is_about earlier slot name then overlaid old position bytes else old))
+MayHave (Torn slot position bytes ∷ earlier) name file =
+    (old : List ℕ) × MayHave earlier name old × MatchBool (is_about earlier slot name) (WriteLeaves position bytes old file) (file ≡ old)
+MayHave (Cut slot len ∷ earlier) name file =
+    (old : List ℕ) × MayHave earlier name old × (file ≡ (if is_about earlier slot name then take len old else old))
+MayHave (HalfCut slot len ∷ earlier) name file =
+    (old : List ℕ) × MayHave earlier name old × MatchBool (is_about earlier slot name) (CutLeaves len old file) (file ≡ old)
+MayHave (Synced slot ∷ earlier) name file = MayHave earlier name file
+MayHave (Put bytes ∷ earlier) name file = MayHave earlier name file
+MayHave (Bound slot other bytes ∷ earlier) name file =
+    MatchOption (begun earlier other bytes name) (MayHave earlier name file) (λ start. file ≡ start)
+
+-- A stop may leave these bytes of the file of a name: each operation on it since its last sync was made, or not,
+-- or, if it was a long write, in part. A bind leaves all that is open as it is.
+abbrev pub MayBeLeft : List Event → Name → List ℕ → Type 0
+MayBeLeft [] name file = file ≡ []
+MayBeLeft (Written slot position bytes ∷ earlier) name file =
+    (old : List ℕ) × MayBeLeft earlier name old × MatchBool (is_about earlier slot name) (WriteLeaves position bytes old file) (file ≡ old)
+MayBeLeft (Torn slot position bytes ∷ earlier) name file =
+    (old : List ℕ) × MayBeLeft earlier name old × MatchBool (is_about earlier slot name) (WriteLeaves position bytes old file) (file ≡ old)
+MayBeLeft (Cut slot len ∷ earlier) name file =
+    (old : List ℕ) × MayBeLeft earlier name old × MatchBool (is_about earlier slot name) (CutLeaves len old file) (file ≡ old)
+MayBeLeft (HalfCut slot len ∷ earlier) name file =
+    (old : List ℕ) × MayBeLeft earlier name old × MatchBool (is_about earlier slot name) (CutLeaves len old file) (file ≡ old)
+MayBeLeft (Synced slot ∷ earlier) name file = MatchBool (is_about earlier slot name) (MayHave earlier name file) (MayBeLeft earlier name file)
+MayBeLeft (Put bytes ∷ earlier) name file = MayBeLeft earlier name file
+MayBeLeft (Bound slot other bytes ∷ earlier) name file =
+    MatchOption (begun earlier other bytes name) (MayBeLeft earlier name file) (λ start. file ≡ start)
+
+-- the slot may hold this file while nothing has stopped
 abbrev pub MayHold : List Event → ℕ → List ℕ → Type 0
-MayHold [] slot file = file ≡ []
-MayHold (Made op ∷ earlier) slot file = (was : List ℕ) × MayHold earlier slot was × (file ≡ after_op op slot was)
-MayHold (Half op ∷ earlier) slot file = (was : List ℕ) × MayHold earlier slot was × OpLeaves op slot was file
-MayHold (Bound s name bytes ∷ earlier) slot file =
-    MatchBool (s == slot) (file ≡ bytes) (MatchBool (is_name (name_of earlier slot) name) (file ≡ []) (MayHold earlier slot file))
+MayHold events slot file = MayHave events (goes_by events slot) file
 
--- the outcomes after an operation on a slot, from those before it and the files that may have been held then
-abbrev pub LeavesAfter : Op → ℕ → (List ℕ → Type 0) → (List ℕ → Type 0) → List ℕ → Type 0
-LeavesAfter (Write s position bytes) slot outcome held file = (was : List ℕ) × outcome was × OpLeaves (Write s position bytes) slot was file
-LeavesAfter (Torn s position bytes) slot outcome held file = (was : List ℕ) × outcome was × OpLeaves (Torn s position bytes) slot was file
-LeavesAfter (Cut s len) slot outcome held file = (was : List ℕ) × outcome was × OpLeaves (Cut s len) slot was file
-LeavesAfter (Sync s) slot outcome held file = MatchBool (s == slot) (held file) (outcome file)
-LeavesAfter (Out bytes) slot outcome held file = outcome file
-
--- The file is one outcome of a stop for this slot: each operation since the slot's last sync was made, or not, or,
--- if it was a long write, in part.
+-- the file is one outcome of a stop for this slot: what may be left of the file that it has
 abbrev pub IsOutcome : List Event → ℕ → List ℕ → Type 0
-IsOutcome [] slot file = file ≡ []
-IsOutcome (Made op ∷ earlier) slot file = LeavesAfter op slot (IsOutcome earlier slot) (MayHold earlier slot) file
-IsOutcome (Half op ∷ earlier) slot file = (was : List ℕ) × IsOutcome earlier slot was × OpLeaves op slot was file
-IsOutcome (Bound s name bytes ∷ earlier) slot file =
-    MatchBool (s == slot) (file ≡ bytes) (MatchBool (is_name (name_of earlier slot) name) (file ≡ []) (IsOutcome earlier slot file))
+IsOutcome events slot file = MayBeLeft events (goes_by events slot) file
 
 -- the files, by slot, are one outcome of a stop
 abbrev pub IsCrashImage : List Event → (ℕ → List ℕ) → Type 0
@@ -72,6 +82,10 @@ EachHeld slot P events = (file : List ℕ) → MayHold events slot file → P fi
 abbrev pub IsSettled : ℕ → List Event → Type 0
 IsSettled slot events = EachOutcome slot (MayHold events slot) events
 
+-- each outcome of every other slot was one before
+abbrev pub OthersStill : ℕ → List Event → List Event → Type 0
+OthersStill slot old new = (other : ℕ) → (slot ≡ other → ⊥) → EachOutcome other (IsOutcome old other) new
+
 -- Q holds after the older events, and again after each of the newer ones
 abbrev pub Along : (List Event → Type 0) → List Event → List Event → Type 0
 Along Q [] older = Q older
@@ -82,20 +96,3 @@ pub record AtEach (old new : List Event) (Q : List Event → Type 0) : Type 0 wh
   pub newer : List Event
   pub grown : new ≡ newer ++ old
   pub each : Along Q newer old
-
--- the event of an operation in a list
-abbrev pub event_of : Op → Event
-event_of (Write slot position bytes) = Made (Write slot position bytes)
-event_of (Torn slot position bytes) = Half (Torn slot position bytes)
-event_of (Cut slot len) = Made (Cut slot len)
-event_of (Sync slot) = Made (Sync slot)
-event_of (Out bytes) = Made (Out bytes)
-
--- the events of these operations, the oldest first, behind earlier ones
-abbrev pub events_onto : List Op → List Event → List Event
-events_onto [] earlier = earlier
-events_onto (op ∷ rest) earlier = events_onto rest (event_of op ∷ earlier)
-
--- the events of a slot that got a file with these bytes, and of these operations, the oldest first
-abbrev pub events_from : ℕ → List ℕ → List Op → List Event
-events_from slot start ops = events_onto ops (Bound slot [] start ∷ [])

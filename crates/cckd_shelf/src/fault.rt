@@ -28,10 +28,11 @@ pub struct Faults {
 }
 
 impl Faults {
-    ghost use Rattle.cckd_shelf.specs.Faults.{Raises};
+    ghost use Rattle.cckd_shelf.specs.Faults.{Raises, no_faults};
 
-    pub(crate) fn none() -> Faults
-        ensures { result ≡ record { reads = 0; writes = 0; syncs = 0; takes = 0; puts = 0 } }
+    /// Nothing failed yet.
+    pub fn none() -> Faults
+        ensures { result ≡ no_faults }
     {
         Faults {
             reads: 0,
@@ -42,8 +43,8 @@ impl Faults {
         }
     }
 
-    /// Counts a call that failed.
-    pub(crate) fn raise(&mut self, kind: Kind) -> Failed
+    /// Counts a call that failed, for a stage.
+    pub fn raise(&mut self, kind: Kind) -> Failed
         ensures { Raises kind self.old self.new }
     {
         match kind {

@@ -1,7 +1,8 @@
 //! A shelf with a script to take and an output to put.
-ghost use Rattle.std.specs.Prelude.{◌≡◌, ◌<◌, ◌≤◌, length, take, [], IfOk, OnErr};
-ghost use Rattle.cckd_shelf.specs.Faults.{Fails, Called, Takes, Puts};
-ghost use Rattle.cckd_shelf.specs.World.{World, after_take, after_put};
+ghost use Rattle.std.specs.Prelude.{◌<◌, ◌≤◌, length, take, IfOk, OnErr};
+ghost use Rattle.cckd_shelf.specs.Faults.{Takes, Puts};
+ghost use Rattle.cckd_shelf.specs.World.{after_take, after_put};
+ghost use Rattle.cckd_shelf.specs.Seen.{seen, Stays, Makes, Fails, Called, AreNext};
 
 use crate::{Failed, Shelf};
 
@@ -12,21 +13,19 @@ pub trait Stage: Shelf {
     fn take(&mut self, into: &mut [u8]) -> Result<usize, Failed>
         requires { 0 < length into.old }
         ensures fits { IfOk result (λ n. n ≤ length into.old) }
-        ensures next { Self.tells → IfOk result (λ n. take n into.new ≡ take n (Self.world self.old).script) }
-        ensures taken { Self.tells → IfOk result (λ n. n ≤ length (Self.world self.old).script) }
-        ensures end { Self.tells → IfOk result (λ n. n ≡ 0 → (Self.world self.old).script ≡ []) }
-        ensures left { Self.tells → IfOk result (λ n. Self.world self.new ≡ after_take (Self.world self.old) n) }
-        ensures kept { Self.tells → OnErr result (Self.world self.new ≡ Self.world self.old) }
-        ensures fails { Fails Takes result (Self.faults self.old) (Self.faults self.new) }
-        ensures called { Called (Self.calls self.old) (Self.calls self.new) };
+        ensures next { IfOk result (λ n. AreNext n into.new (seen Self.Shows self.old)) }
+        ensures left { IfOk result (λ n. Makes (after_take n) (seen Self.Shows self.old) (seen Self.Shows self.new)) }
+        ensures kept { OnErr result (Stays (seen Self.Shows self.old) (seen Self.Shows self.new)) }
+        ensures fails { Fails Takes result (seen Self.Shows self.old) (seen Self.Shows self.new) }
+        ensures called { Called (seen Self.Shows self.old) (seen Self.Shows self.new) };
 
     /// Adds the front of `bytes` to the output, and answers how many. Of a piece that isn't empty it takes
     /// at least one.
     fn put(&mut self, bytes: &[u8]) -> Result<usize, Failed>
         ensures fits { IfOk result (λ n. n ≤ length bytes.now) }
         ensures some { IfOk result (λ n. 0 < length bytes.now → 0 < n) }
-        ensures put { Self.tells → IfOk result (λ n. Self.world self.new ≡ after_put (Self.world self.old) (take n bytes.now)) }
-        ensures kept { Self.tells → OnErr result (Self.world self.new ≡ Self.world self.old) }
-        ensures fails { Fails Puts result (Self.faults self.old) (Self.faults self.new) }
-        ensures called { Called (Self.calls self.old) (Self.calls self.new) };
+        ensures put { IfOk result (λ n. Makes (after_put (take n bytes.now)) (seen Self.Shows self.old) (seen Self.Shows self.new)) }
+        ensures kept { OnErr result (Stays (seen Self.Shows self.old) (seen Self.Shows self.new)) }
+        ensures fails { Fails Puts result (seen Self.Shows self.old) (seen Self.Shows self.new) }
+        ensures called { Called (seen Self.Shows self.old) (seen Self.Shows self.new) };
 }

@@ -1,0 +1,5 @@
+pub mod CountLemmas
+pub mod FileLemmas
+pub mod HistoryLemmas
+pub mod ImageLemmas
+pub mod StoredLemmas

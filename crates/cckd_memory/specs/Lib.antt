@@ -1,0 +1,5 @@
+pub mod Counts
+pub mod Held
+pub mod Images
+pub mod Inside
+pub mod Memory

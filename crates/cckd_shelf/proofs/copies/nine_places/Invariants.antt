@@ -1,6 +1,0 @@
-use Rattle.std.proofs.Common.{◌≡◌, replicate}
-use Rattle.cckd_shelf.specs.Inside.{no_place}
-use Rattle.cckd_shelf.proofs.copies.nine_places.Given as goal
-
-abbrev pub invariant-loop-slot : goal.invariant-loop-slot
-invariant-loop-slot l = l.places.items ≡ replicate l._slot no_place

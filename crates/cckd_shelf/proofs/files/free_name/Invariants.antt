@@ -1,6 +1,0 @@
-use Rattle.std.proofs.Common.{◌≡◌, map, ◌++◌, take, drop}
-use Rattle.cckd_shelf.specs.Inside.{without}
-use Rattle.cckd_shelf.proofs.files.free_name.Given as goal
-
-abbrev pub invariant-loop-place : goal.invariant-loop-place
-invariant-loop-place l = l.places ≡ map (without l.name) (take l.place-index l.initial.places) ++ drop l.place-index l.initial.places
