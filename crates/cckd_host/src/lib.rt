@@ -9,7 +9,8 @@ mod source;
 mod tests;
 mod words;
 
-use cckd_shelf::{HostStage, Stage};
+use cckd_files::HostStage;
+use cckd_shelf::Stage;
 use cckd_top::run_plain;
 pub use source::WordSource;
 use std::alloc::Global;

@@ -1,7 +1,7 @@
 ghost use Rattle.std.specs.Prelude.{[]};
 
 use crate::{WordSource, run_from, words_of};
-use cckd_shelf::MemoryStage;
+use cckd_memory::MemoryStage;
 use std::alloc::Global;
 use std::env::FillError;
 use std::process::Abort;
