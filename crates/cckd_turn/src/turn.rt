@@ -82,8 +82,11 @@ impl<V: Stands> TurnTable<V> {
         let None = empty else { unreachable!() };
         shared.load::<PutBack<N>>(&mut seat, SERVING);
         let before = shared.fetch_add::<PassOn>(&mut seat, SERVING, 1);
-        shared.wake_all(SERVING);
         let place = before + 1;
+        // Whoever draws a ticket from here on sees that this place is served, and doesn't park.
+        if shared.peek(TICKET) != place {
+            shared.wake_all(SERVING);
+        }
         pass.sit(seat, place);
         Receipt { place }
     }
