@@ -10,6 +10,8 @@ mod table;
 mod tests;
 mod turn;
 mod view;
+#[cfg(test)]
+mod wait_tests;
 
 pub use crossing::cross_threads;
 pub use pass::{Busy, Pass, Receipt, Taken};
