@@ -1,6 +1,7 @@
 //! A value that callers use one after another, by tickets, with a history of who used it.
 #![tactic(auto)]
 
+mod bells;
 mod crossing;
 mod pass;
 mod plays;

@@ -89,9 +89,9 @@ impl<V: Stands> TurnTable<V> {
         shared.load::<PutBack<N>>(&mut seat, SERVING);
         let before = shared.fetch_add::<PassOn>(&mut seat, SERVING, 1);
         let place = before + 1;
-        // Whoever draws a ticket from here on sees that this place is served, and doesn't park.
+        // Whoever draws the next ticket from here on sees that it is served, and doesn't sleep.
         if shared.peek(TICKET) != place {
-            shared.wake_all(SERVING);
+            self.bells.ring(place);
         }
         pass.sit(seat, place);
         Receipt { place }
@@ -115,11 +115,12 @@ impl<V: Stands> TurnTable<V> {
     {
         let shared = &self.table.shared;
         for looks in 1..u64::MAX {
+            let rung = self.bells.rung(ticket);
             let serving = shared.load::<Look>(seat, SERVING);
             if serving == ticket {
                 return looks;
             }
-            shared.park(rt, SERVING, (serving & 0xffff_ffff) as u32);
+            self.bells.sleep(rt, ticket, rung);
         }
         // Nobody comes here: no run has time for so many looks.
         for _ in rt.forever() {}

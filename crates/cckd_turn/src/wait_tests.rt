@@ -139,11 +139,6 @@ fn count_behind<R: Clock>(
     None
 }
 
-// Wakes one for no reason. It looks, and falls asleep behind the others.
-fn nudge(table: &TurnTable<Counter>) {
-    table.table.shared.wake_one(1);
-}
-
 // Takes the value, gives it back once three others wait for it, and tries with a fifth pass until all were served.
 fn lead<R: Wait + Clock + Abort>(
     rt: &R,
@@ -158,7 +153,9 @@ fn lead<R: Wait + Clock + Abort>(
     let drawn = are_drawn(rt, table, &mut fifth, 4);
     assert!(rt; drawn, "three others draw tickets");
     nap(rt, LULL);
-    nudge(table);
+    for ticket in 1..4 {
+        table.bells.ring(ticket);
+    }
     nap(rt, LULL);
     finish::<Brand>(table, &mut first, taken);
     let last = count_behind(rt, table, &mut fifth);
