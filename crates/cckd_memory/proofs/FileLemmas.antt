@@ -7,7 +7,8 @@ use Rattle.std.proofs.lemmas.Bool.{cases_Bool, cond-true, cond-false, cond_both,
 use Rattle.std.proofs.lemmas.Slice.Eq.{bytes_eq-Decides}
 use Rattle.std.proofs.lemmas.List.{append-nil, append_assoc, drop_all, length-append, length-replicate, replicate-append-replicate, take_all, take-append-le}
 use Rattle.cckd_shelf.specs.Files.{overlaid}
-use Rattle.cckd_shelf.specs.World.{file_named, with_file}
+use Rattle.cckd_memory.specs.Files.{file_named}
+use Rattle.cckd_shelf.specs.World.{with_file}
 use Rattle.cckd_memory.specs.Inside.{place_in, IsFirst, HasNone}
 use Rattle.cckd_memory.specs.declared.bytes.FileIn.{FileIn}
 
@@ -135,7 +136,7 @@ mapped_step {X} f xs ys i d new h e k =
     ap (λ (s : List X). set s i new) e ∙ (ap (λ (y : X). set (map f (take i xs) ++ drop i xs) i y) value ∙ mapped_more f xs i d h)
 
 -- a slice of a whole `Vec` that is written, and given back
-pub given_back : (n : ℕ) (written items : List ℕ) → n ≡ length items → length written ≡ length items → take n (written ++ drop (length written) items) ≡ written
+pub given_back : {X : Type 0} (n : ℕ) (written items : List X) → n ≡ length items → length written ≡ length items → take n (written ++ drop (length written) items) ≡ written
 given_back n written items e h =
     let none : drop (length written) items ≡ [] = drop_all _ items (omega arith) in
     let same : written ++ drop (length written) items ≡ written = ap (λ x. written ++ x) none ∙ append-nil written in

@@ -1,43 +1,27 @@
 -- How a stage in memory keeps what it tells.
-use Rattle.std.specs.Prelude.{ℕ, ◌≡◌, ◌+◌, ◌<◌, bytes_eq, Bool, true, false, if◌then◌else◌, List, [], ◌∷◌, ◌++◌, length, reverse, drop, slice_index_or, slice_set, Option, Some, None, unwrap_or}
+use Rattle.std.specs.Prelude.{ℕ, ◌≡◌, ◌+◌, ◌<◌, bytes_eq, Bool, true, if◌then◌else◌, List, [], ◌∷◌, ◌++◌, length, reverse, drop, slice_index_or, slice_set, Option, Some, None, unwrap_or}
 use Rattle.std.specs.List.{position_from}
 use Rattle.cckd_memory.specs.declared.bytes.FileIn.{FileIn}
 use Rattle.cckd_memory.specs.declared.op.Op.{Op}
-use Rattle.cckd_memory.specs.declared.op.Op.TheVariants.{Write, Torn}
 use Rattle.cckd_memory.specs.declared.history.Note.{Note}
 use Rattle.cckd_memory.specs.declared.history.Note.TheVariants as note
 use Rattle.cckd_memory.specs.declared.places.Place.{Place}
-use Rattle.cckd_shelf.specs.World.{Event, Made, Half, Bound, file_named, with_file, is_name, name_of, file_now, output_of}
-
--- an operation that failed half way, or was made
-abbrev pub op_event : Bool → Op → Event
-op_event true op = Half op
-op_event false op = Made op
-
--- whether an operation was made, or failed half way
-abbrev pub note_of : Bool → Note
-note_of true = note.Half
-note_of false = note.Made
-
--- a write that failed half way, or was made
-abbrev pub overlay_op : Bool → ℕ → ℕ → List ℕ → Op
-overlay_op true slot position bytes = Torn slot position bytes
-overlay_op false slot position bytes = Write slot position bytes
+use Rattle.cckd_memory.specs.Files.{file_named}
+use Rattle.cckd_memory.specs.Ops.{event_of}
+use Rattle.cckd_shelf.specs.Events.{Event, Bound, Named, Nameless, is_name, name_of, was_bound, held_now, output_of}
+use Rattle.cckd_shelf.specs.World.{with_file}
 
 -- how many of the notes have an operation
 abbrev pub op_count : List Note → ℕ
 op_count [] = 0
-op_count (note.Made ∷ rest) = op_count rest + 1
-op_count (note.Half ∷ rest) = op_count rest + 1
+op_count (note.Op ∷ rest) = op_count rest + 1
 op_count (note.Bound slot name bytes ∷ rest) = op_count rest
 
 -- each note with its operation, in order
 abbrev pub woven : List Note → List Op → List Event
 woven [] ops = []
-woven (note.Made ∷ rest) [] = []
-woven (note.Made ∷ rest) (op ∷ ops) = Made op ∷ woven rest ops
-woven (note.Half ∷ rest) [] = []
-woven (note.Half ∷ rest) (op ∷ ops) = Half op ∷ woven rest ops
+woven (note.Op ∷ rest) [] = []
+woven (note.Op ∷ rest) (op ∷ ops) = event_of op ∷ woven rest ops
 woven (note.Bound slot name bytes ∷ rest) ops = Bound slot name bytes ∷ woven rest ops
 
 -- the newest first
@@ -104,4 +88,5 @@ with_content place bytes = record place { loose = loose_after place.name place.l
 pub record IsStored (files : List ℕ → Option (List ℕ)) (places : List Place) (events : List Event) : Type 0 where
   pub nine : length places ≡ 9
   pub names : (slot : ℕ) → (place_at places slot).name ≡ name_of events slot
-  pub held : (slot : ℕ) → content files (place_at places slot) ≡ file_now events slot
+  pub named : (name : List ℕ) → was_bound events name ≡ true → unwrap_or (files name) [] ≡ held_now events (Named name)
+  pub nameless : (slot : ℕ) → (place_at places slot).name ≡ None → (place_at places slot).loose ≡ held_now events (Nameless slot)

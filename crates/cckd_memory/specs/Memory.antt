@@ -1,13 +1,11 @@
 -- What a `MemoryStage` tells.
-use Rattle.std.specs.Prelude.{ℕ, List, Option, drop}
-use Rattle.std.proofs.Common.{sym, ◌∙◌, ap}
+use Rattle.std.specs.Prelude.{ℕ, ◌≡◌, ◌⊎◌, true, List, Option, drop}
 use Rattle.cckd_memory.specs.declared.counts.Counts.{Counts}
-use Rattle.cckd_shelf.specs.declared.fault.Faults.{Faults}
 use Rattle.cckd_memory.specs.declared.memory.MemoryStage.{MemoryStage}
+use Rattle.cckd_shelf.specs.Seen.{Seen}
 use Rattle.cckd_shelf.specs.World.{World, IsTied}
+use Rattle.cckd_memory.specs.Counts.{IsNext}
 use Rattle.cckd_memory.specs.Held.{world_in}
-use Rattle.cckd_memory.specs.Inside.{IsStored, place_at, content_by}
-use Rattle.cckd_memory.specs.declared.places.Place.{Place}
 
 -- what a stage in memory holds
 abbrev pub world_of : MemoryStage → World
@@ -17,19 +15,15 @@ world_of stage = world_in stage.held (drop stage.taken stage.script)
 abbrev pub counts_of : MemoryStage → Counts
 counts_of stage = stage.counts
 
--- its counts of faults
-abbrev pub faults_of : MemoryStage → Faults
-faults_of stage = stage.counts.faults
+-- what it shows
+abbrev pub seen_of : MemoryStage → Seen
+seen_of stage = record { tells = true; world = world_of stage; faults = stage.counts.faults; calls = stage.counts.calls }
 
--- its count of calls
-abbrev pub calls_of : MemoryStage → ℕ
-calls_of stage = stage.counts.calls
-
--- a slot that has a name holds what the name holds
-stored_tied : (w : World) (ps : List Place) → IsStored w.files ps w.events → IsTied w
-stored_tied w ps h = record {
-  named = λ slot name e. sym (ap (λ (o : Option (List ℕ)). content_by w.files o (place_at ps slot).loose) (h.names slot ∙ e)) ∙ h.held slot;
-}
+-- A call that failed noted what it may have made in part, or else memory was wanted in it and nothing was made.
+abbrev pub Notes : (World → World) → MemoryStage → MemoryStage → Type 0
+Notes change old new =
+    ((new.counts.wanted ≡ old.counts.wanted) × (world_of new ≡ change (world_of old)))
+    ⊎ (IsNext old.counts.wanted new.counts.wanted × (world_of new ≡ world_of old))
 
 pub world_tied : (stage : MemoryStage) → IsTied (world_of stage)
-world_tied stage = stored_tied (world_of stage) stage.held.places.items stage.held.stored
+world_tied stage = record { named = stage.held.stored.named }

@@ -1,6 +1,6 @@
 //! What a stage in memory begins with.
 ghost use Rattle.std.specs.Prelude.{◌≡◌, replicate, IfOk};
-ghost use Rattle.cckd_shelf.specs.Inside.{no_place};
+ghost use Rattle.cckd_memory.specs.Inside.{no_place};
 
 use crate::places::Place;
 use crate::{Bytes, FileIn, Memory};

@@ -1,7 +1,8 @@
 //! The calls of a stage in memory, and those that fail.
 ghost use Rattle.std.specs.Prelude.{◌≡◌, ◌+◌, ◌-◌, ◌^◌, min, IfOk};
 
-use crate::{Failed, Faults, Kind, Memory};
+use crate::Memory;
+use cckd_shelf::{Failed, Faults, Kind};
 use std::alloc::Global;
 
 /// Which calls are to fail, and how many were made, wanted memory, and failed.
@@ -14,7 +15,7 @@ pub struct Counts {
 }
 
 impl Counts {
-    ghost use Rattle.cckd_shelf.specs.Counts.{IsFresh, Begins, Fell, Wanted};
+    ghost use Rattle.cckd_memory.specs.Counts.{IsFresh, Begins, Fell, Wanted};
 
     pub(crate) fn new(alloc: Global, failing: &[u64]) -> Result<Counts, Memory>
         ensures { IfOk result (IsFresh failing.now) }

@@ -2,8 +2,9 @@
 ghost use Rattle.std.specs.Prelude.{◌≡◌, ◌+◌, ◌^◌, ◌<◌, ℕ, List, [], length, map, take, unwrap_or, slice_set, IfOk, IfSome, IfNone, OnOk, OnErr};
 ghost use Rattle.std.specs.Option.{option_copied};
 ghost use Rattle.cckd_shelf.specs.Files.{overlaid};
-ghost use Rattle.cckd_shelf.specs.World.{file_named, with_file, with_present};
-ghost use Rattle.cckd_shelf.specs.Inside.{place_in, without, content, with_content, IsFirst, HasNone};
+ghost use Rattle.cckd_shelf.specs.World.{with_file, with_present};
+ghost use Rattle.cckd_memory.specs.Files.{file_named};
+ghost use Rattle.cckd_memory.specs.Inside.{place_in, without, content, with_content, IsFirst, HasNone};
 
 use crate::places::Place;
 use crate::{Bytes, FileIn, Memory};

@@ -1,18 +1,16 @@
 //! All that happened to a stage in memory.
-ghost use Rattle.std.specs.Prelude.{◌≡◌, [], ◌∷◌, ◌++◌, drop, OnOk, OnErr};
-ghost use Rattle.cckd_shelf.specs.World.{Made, Bound, put_by, ops_of, output_of};
-ghost use Rattle.cckd_shelf.specs.declared.op.Op.TheVariants.{Out};
+ghost use Rattle.std.specs.Prelude.{◌≡◌, [], ◌∷◌, ◌++◌, drop, map, OnOk, OnErr};
+ghost use Rattle.cckd_shelf.specs.Events.{Put, Bound, ops_of, output_of};
 
 use crate::pairs::{pop_both, push_both};
 use crate::{Bytes, Memory, Op};
 use std::alloc::Global;
 use std::marker::Model;
 
-/// What an event was, beside its operation if it has one.
+/// An event: the next operation, or a bind.
 #[derive(Debug, Drop)]
 pub(crate) enum Note {
-    Made,
-    Half,
+    Op,
     Bound { slot: u8, name: Bytes, bytes: Bytes },
 }
 
@@ -26,11 +24,11 @@ pub(crate) struct History {
 
 impl Model for History {
     ghost use Rattle.std.specs.Prelude.{List};
-    ghost use Rattle.cckd_shelf.specs.World.{Event};
+    ghost use Rattle.cckd_shelf.specs.Events.{Event};
 
     ghost Value = { List Event };
 
-    ghost use Rattle.cckd_shelf.specs.Inside.{events_of, IsWritten};
+    ghost use Rattle.cckd_memory.specs.Inside.{events_of, IsWritten};
 
     ghost view = { λ h. events_of h.notes.items h.ops.items };
 
@@ -38,7 +36,7 @@ impl Model for History {
 }
 
 impl History {
-    ghost use Rattle.cckd_shelf.specs.Inside.{op_event};
+    ghost use Rattle.cckd_memory.specs.Ops.{event_of, put_by};
 
     pub(crate) fn new(alloc: Global) -> History
         ensures { result ≡ [] }
@@ -51,7 +49,7 @@ impl History {
     }
 
     pub(crate) fn ops(&self) -> &[Op]
-        ensures { result.now ≡ ops_of self.now }
+        ensures { map event_of result.now ≡ ops_of self.now }
     {
         self.ops.as_slice()
     }
@@ -62,24 +60,24 @@ impl History {
         self.output.get()
     }
 
-    /// Adds an operation that was made, or one that failed half way.
-    pub(crate) fn add(&mut self, half: bool, op: Op) -> Result<(), Memory>
+    /// Adds an operation that puts nothing.
+    pub(crate) fn add(&mut self, op: Op) -> Result<(), Memory>
         requires { put_by op ≡ [] }
-        ensures added { OnOk result (self.new ≡ op_event half op ∷ self.old) }
+        ensures added { OnOk result (self.new ≡ event_of op ∷ self.old) }
         ensures kept { OnErr result (self.new ≡ self.old) }
     {
-        push_both(&mut self.notes, half, &mut self.ops, op)?;
+        push_both(&mut self.notes, &mut self.ops, op)?;
         Ok(())
     }
 
     pub(crate) fn add_put(&mut self, bytes: Bytes) -> Result<(), Memory>
-        ensures added { OnOk result (self.new ≡ Made (Out bytes) ∷ self.old) }
+        ensures added { OnOk result (self.new ≡ Put bytes ∷ self.old) }
         ensures kept { OnErr result (self.new ≡ self.old) }
     {
         let before = self.output.get().len();
         self.output.add(bytes.get())?;
-        let op = Op::Out { bytes };
-        let Ok(()) = push_both(&mut self.notes, false, &mut self.ops, op) else {
+        let op = Op::Put { bytes };
+        let Ok(()) = push_both(&mut self.notes, &mut self.ops, op) else {
             self.output.cut(before);
             return Err(std::alloc::AllocError);
         };
@@ -100,15 +98,5 @@ impl History {
         ensures { self.new ≡ drop 1 self.old }
     {
         pop_both(&mut self.notes, &mut self.ops);
-    }
-}
-
-impl Note {
-    ghost use Rattle.cckd_shelf.specs.Inside.{note_of};
-
-    pub(crate) fn of_op(half: bool) -> Note
-        ensures { result ≡ note_of half }
-    {
-        if half { Note::Half } else { Note::Made }
     }
 }

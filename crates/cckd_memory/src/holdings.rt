@@ -1,15 +1,18 @@
 //! The files and slots of a stage in memory, with all that happened to them.
 ghost use Rattle.std.specs.Prelude.{◌≡◌, ◌+◌, ◌^◌, ◌<◌, ℕ, List, length, OnOk, OnErr, IfOk};
 ghost use Rattle.cckd_shelf.specs.Files.{bytes_at};
-ghost use Rattle.cckd_shelf.specs.World.{file_named, file_of, fresh, after_bind, after_sync, after_put};
+ghost use Rattle.cckd_shelf.specs.World.{file_of, after_bind, after_sync, after_put};
+ghost use Rattle.cckd_memory.specs.Files.{file_named, fresh};
 ghost use Rattle.std.specs.Option.{option_copied};
-ghost use Rattle.cckd_shelf.specs.Inside.{IsStored, overlay_op};
+ghost use Rattle.cckd_memory.specs.Ops as ops;
+ghost use Rattle.cckd_memory.specs.Inside.{IsStored};
 
 use crate::copies::{copy_files, nine_places};
 use crate::files::{copy_named, cut_held, give_name, held, named, overlay_held};
 use crate::history::History;
 use crate::places::Place;
-use crate::{Bytes, FileIn, Memory, Op, Slot};
+use crate::{Bytes, FileIn, Memory, Op};
+use cckd_shelf::Slot;
 use std::alloc::Global;
 
 #[derive(Debug, Drop)]
@@ -22,7 +25,7 @@ pub(crate) struct Holdings {
 }
 
 impl Holdings {
-    ghost use Rattle.cckd_shelf.specs.Held.{world_in, after_overlay, after_cut_off};
+    ghost use Rattle.cckd_memory.specs.Held.{world_in, after_overlay, after_cut_off};
 
     pub(crate) fn new(alloc: Global, files: &[FileIn]) -> Result<Holdings, Memory>
         ensures { IfOk result (λ held. (script : List ℕ) → world_in held script ≡ fresh files.now script) }
@@ -48,7 +51,7 @@ impl Holdings {
     }
 
     pub(crate) fn bind(&mut self, slot: Slot, name: &[u8]) -> Result<(), Memory>
-        ensures bound { (script : List ℕ) → OnOk result (world_in self.new script ≡ after_bind (world_in self.old script) slot name.now) }
+        ensures bound { (script : List ℕ) → OnOk result (world_in self.new script ≡ after_bind slot name.now (world_in self.old script)) }
         ensures kept { (script : List ℕ) → OnErr result (world_in self.new script ≡ world_in self.old script) }
     {
         let at = slot.get() as usize;
@@ -72,12 +75,12 @@ impl Holdings {
         bytes: &[u8],
     ) -> Result<(), Memory>
         requires { pos + length bytes.now < 2 ^ 63 }
-        ensures written { (script : List ℕ) → OnOk result (world_in self.new script ≡ after_overlay half (world_in self.old script) slot pos bytes.now) }
+        ensures written { (script : List ℕ) → OnOk result (world_in self.new script ≡ after_overlay half slot pos bytes.now (world_in self.old script)) }
         ensures kept { (script : List ℕ) → OnErr result (world_in self.new script ≡ world_in self.old script) }
     {
         let at = slot.get();
         let copy = Bytes::of(self.alloc, bytes)?;
-        self.history.add(half, write_op(half, at, pos, copy))?;
+        self.history.add(write_op(half, at, pos, copy))?;
         let place = &mut self.places[at as usize];
         let Ok(()) = overlay_held(self.alloc, &mut self.files, place, pos as usize, bytes) else {
             self.history.take_back();
@@ -88,26 +91,26 @@ impl Holdings {
 
     /// Cuts the file, and notes a cut that was made or one that failed half way.
     pub(crate) fn cut(&mut self, half: bool, slot: Slot, len: u64) -> Result<(), Memory>
-        ensures cut { (script : List ℕ) → OnOk result (world_in self.new script ≡ after_cut_off half (world_in self.old script) slot len) }
+        ensures cut { (script : List ℕ) → OnOk result (world_in self.new script ≡ after_cut_off half slot len (world_in self.old script)) }
         ensures kept { (script : List ℕ) → OnErr result (world_in self.new script ≡ world_in self.old script) }
     {
         let at = slot.get();
-        self.history.add(half, Op::Cut { slot: at, len })?;
+        self.history.add(cut_op(half, at, len))?;
         let place = &mut self.places[at as usize];
         cut_held(&mut self.files, place, len as usize);
         Ok(())
     }
 
     pub(crate) fn sync(&mut self, slot: Slot) -> Result<(), Memory>
-        ensures synced { (script : List ℕ) → OnOk result (world_in self.new script ≡ after_sync (world_in self.old script) slot) }
+        ensures synced { (script : List ℕ) → OnOk result (world_in self.new script ≡ after_sync slot (world_in self.old script)) }
         ensures kept { (script : List ℕ) → OnErr result (world_in self.new script ≡ world_in self.old script) }
     {
-        self.history.add(false, Op::Sync { slot: slot.get() })?;
+        self.history.add(Op::Sync { slot: slot.get() })?;
         Ok(())
     }
 
     pub(crate) fn put(&mut self, bytes: &[u8]) -> Result<(), Memory>
-        ensures put { (script : List ℕ) → OnOk result (world_in self.new script ≡ after_put (world_in self.old script) bytes.now) }
+        ensures put { (script : List ℕ) → OnOk result (world_in self.new script ≡ after_put bytes.now (world_in self.old script)) }
         ensures kept { (script : List ℕ) → OnErr result (world_in self.new script ≡ world_in self.old script) }
     {
         let copy = Bytes::of(self.alloc, bytes)?;
@@ -117,11 +120,21 @@ impl Holdings {
 }
 
 fn write_op(half: bool, slot: u8, pos: u64, bytes: Bytes) -> Op
-    ensures { result ≡ overlay_op half slot pos bytes }
+    ensures { result ≡ ops.write_op half slot pos bytes }
 {
     if half {
         Op::Torn { slot, pos, bytes }
     } else {
         Op::Write { slot, pos, bytes }
+    }
+}
+
+fn cut_op(half: bool, slot: u8, len: u64) -> Op
+    ensures { result ≡ ops.cut_op half slot len }
+{
+    if half {
+        Op::HalfCut { slot, len }
+    } else {
+        Op::Cut { slot, len }
     }
 }

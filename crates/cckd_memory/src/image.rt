@@ -1,10 +1,12 @@
 //! One outcome of a stop, for tests.
 ghost use Rattle.std.specs.Prelude.{◌≡◌, IfOk, OnOk};
 ghost use Rattle.cckd_shelf.specs.Files.{overlaid};
-ghost use Rattle.cckd_shelf.specs.Outcomes.{WriteLeaves, IsOutcome, events_from};
-ghost use Rattle.cckd_shelf.specs.Images.{HeldAfter, LeftAfter};
+ghost use Rattle.cckd_shelf.specs.Outcomes.{WriteLeaves, IsOutcome};
+ghost use Rattle.cckd_memory.specs.Ops.{events_from};
+ghost use Rattle.cckd_memory.specs.Images.{HeldAfter, LeftAfter};
 
-use crate::{Bytes, Memory, Op, Slot};
+use crate::{Bytes, Memory, Op};
+use cckd_shelf::Slot;
 use std::alloc::{AllocError, Global};
 
 /// One outcome of a stop for a slot whose file was `start`, after these operations. The bytes of `choices`
@@ -46,6 +48,7 @@ fn rest_after<'a>(op: &Op, at: u8, rest: &'a [u8], all: &'a [u8]) -> &'a [u8] {
         Op::Write { slot, .. } if *slot == at => without_first(rest),
         Op::Torn { slot, .. } if *slot == at => without_first(rest),
         Op::Cut { slot, .. } if *slot == at => without_first(rest),
+        Op::HalfCut { slot, .. } if *slot == at => without_first(rest),
         _ => rest,
     }
 }
@@ -81,6 +84,13 @@ fn make(
         Op::Cut { slot, len } if *slot == at => {
             held.cut(*len as usize);
             if choice != 0 {
+                left.cut(*len as usize);
+            }
+            Ok(())
+        }
+        Op::HalfCut { slot, len } if *slot == at => {
+            if choice != 0 {
+                held.cut(*len as usize);
                 left.cut(*len as usize);
             }
             Ok(())

@@ -1,14 +1,17 @@
 //! A stage in memory, which tells all that it holds.
-ghost use Rattle.std.specs.Prelude.{◌≡◌, ◌⊎◌, ℕ, ◌+◌, ◌^◌, ◌<◌, ◌≤◌, [], length, take, IfOk, OnOk, OnErr};
+ghost use Rattle.std.specs.Prelude.{◌≡◌, ◌+◌, ◌^◌, ◌<◌, ◌≤◌, length, map, drop, take, IfOk, OnOk, OnErr};
 ghost use Rattle.std.specs.Option.{option_copied};
-ghost use Rattle.cckd_shelf.specs.Faults.{Reads, Writes, Syncs, Takes, Puts};
-ghost use Rattle.cckd_shelf.specs.Files.{bytes_at};
-ghost use Rattle.cckd_shelf.specs.World.{IsSure, fresh, file_of, ops_of, output_of, after_bind, after_write, after_torn, after_cut, after_half_cut, after_sync, after_take, after_put};
+ghost use Rattle.cckd_shelf.specs.Events.{ops_of, output_of};
+ghost use Rattle.cckd_shelf.specs.declared.fault.Kind.TheVariants.{Reads, Writes, Syncs, Takes, Puts};
+ghost use Rattle.cckd_shelf.specs.Seen.{Stays, Makes, MayMake, Fails, Called, IsLength, HasBytes, IsPart, AreNext};
+ghost use Rattle.cckd_shelf.specs.World.{after_bind, after_write, after_torn, after_cut, after_half_cut, after_sync, after_take, after_put};
+ghost use Rattle.cckd_memory.specs.Files.{fresh};
 
 use crate::counts::Counts;
 use crate::holdings::Holdings;
 use crate::parts::{copy_front, copy_part};
-use crate::{Bytes, Failed, FileIn, Kind, Memory, Op, Shelf, Slot, Stage};
+use crate::{Bytes, FileIn, Memory, Op};
+use cckd_shelf::{Failed, Kind, Shelf, Shows, Slot, Stage};
 use std::alloc::Global;
 
 /// Files, a script and an output in memory. A call fails exactly where its number, counted from 1, is
@@ -23,8 +26,9 @@ pub struct MemoryStage {
 }
 
 impl MemoryStage {
-    ghost use Rattle.cckd_shelf.specs.Memory.{world_of, counts_of};
-    ghost use Rattle.cckd_shelf.specs.Counts.{IsFresh};
+    ghost use Rattle.cckd_memory.specs.Memory.{world_of, counts_of};
+    ghost use Rattle.cckd_memory.specs.Counts.{IsFresh};
+    ghost use Rattle.cckd_memory.specs.Ops.{event_of};
 
     /// A stage with these files and this script. The calls of the numbers in `failing` are to fail, counted from
     /// 1 over all calls of both traits.
@@ -61,9 +65,17 @@ impl MemoryStage {
 
     /// All operations, the oldest first.
     pub fn ops(&self) -> &[Op]
-        ensures { result.now ≡ ops_of (world_of self.now).events }
+        ensures { map event_of result.now ≡ ops_of (world_of self.now).events }
     {
         self.held.history.ops()
+    }
+
+    /// What is left of the script.
+    fn rest(&self) -> &[u8]
+        ensures rest { result.now ≡ drop self.now.taken self.now.script }
+        ensures short { self.now.taken + length result.now < 2 ^ 64 }
+    {
+        &self.script.get()[self.taken..]
     }
 
     /// How many calls failed for want of memory.
@@ -74,23 +86,30 @@ impl MemoryStage {
     }
 }
 
-impl Shelf for MemoryStage {
-    ghost use Rattle.cckd_shelf.specs.Memory.{world_of, counts_of, faults_of, calls_of, world_tied};
-    ghost use Rattle.cckd_shelf.specs.Counts.{Counted, NeedsNone};
+impl Shows for MemoryStage {
+    ghost use Rattle.std.specs.Prelude.{true};
+    ghost use Rattle.cckd_memory.specs.Memory.{world_of, world_tied};
 
-    ghost tells = { Unit {0} };
+    ghost tells = { true };
 
     ghost world = { world_of };
 
-    ghost calls = { calls_of };
+    ghost faults = { λ s. s.counts.faults };
 
-    ghost faults = { faults_of };
+    ghost calls = { λ s. s.counts.calls };
 
     ghost tied = { λ s _. world_tied s };
+}
+
+impl Shelf for MemoryStage {
+    ghost use Rattle.cckd_memory.specs.Memory.{counts_of, seen_of, Notes};
+    ghost use Rattle.cckd_memory.specs.Counts.{Counted, NeedsNone};
 
     fn bind(&mut self, slot: Slot, name: &str) -> Result<(), Failed>
-        ensures bound { OnOk result (world_of self.new ≡ after_bind (world_of self.old) slot name.now) }
-        ensures kept { OnErr result (world_of self.new ≡ world_of self.old) }
+        ensures bound { OnOk result (Makes (after_bind slot name.now) (seen_of self.old) (seen_of self.new)) }
+        ensures kept { OnErr result (Stays (seen_of self.old) (seen_of self.new)) }
+        ensures fails { Fails Reads result (seen_of self.old) (seen_of self.new) }
+        ensures called { Called (seen_of self.old) (seen_of self.new) }
         ensures counted { Counted Reads result (counts_of self.old) (counts_of self.new) }
     {
         if self.counts.begin() {
@@ -103,8 +122,10 @@ impl Shelf for MemoryStage {
     }
 
     fn len(&mut self, slot: Slot) -> Result<u64, Failed>
-        ensures len { IsSure (world_of self.old) → IfOk result (λ n. n ≡ length (file_of (world_of self.old) slot)) }
-        ensures kept { world_of self.new ≡ world_of self.old }
+        ensures len { IfOk result (λ n. IsLength slot n (seen_of self.old)) }
+        ensures kept { Stays (seen_of self.old) (seen_of self.new) }
+        ensures fails { Fails Reads result (seen_of self.old) (seen_of self.new) }
+        ensures called { Called (seen_of self.old) (seen_of self.new) }
         ensures counted { Counted Reads result (counts_of self.old) (counts_of self.new) }
         ensures needs { NeedsNone (counts_of self.old) (counts_of self.new) }
     {
@@ -115,11 +136,11 @@ impl Shelf for MemoryStage {
     }
 
     fn read(&mut self, slot: Slot, pos: u64, into: &mut [u8]) -> Result<(), Failed>
-        requires { IsSure (world_of self.old)
-            → pos + length into.old ≤ length (file_of (world_of self.old) slot) }
-        ensures bytes { IsSure (world_of self.old)
-            → OnOk result (into.new ≡ bytes_at (file_of (world_of self.old) slot) pos (length into.old)) }
-        ensures kept { world_of self.new ≡ world_of self.old }
+        requires { HasBytes slot (pos + length into.old) (seen_of self.old) }
+        ensures bytes { OnOk result (IsPart slot pos (length into.old) into.new (seen_of self.old)) }
+        ensures kept { Stays (seen_of self.old) (seen_of self.new) }
+        ensures fails { Fails Reads result (seen_of self.old) (seen_of self.new) }
+        ensures called { Called (seen_of self.old) (seen_of self.new) }
         ensures counted { Counted Reads result (counts_of self.old) (counts_of self.new) }
         ensures needs { NeedsNone (counts_of self.old) (counts_of self.new) }
     {
@@ -132,9 +153,11 @@ impl Shelf for MemoryStage {
 
     fn write(&mut self, slot: Slot, pos: u64, bytes: &[u8]) -> Result<(), Failed>
         requires { pos + length bytes.now < 2 ^ 63 }
-        ensures written { OnOk result (world_of self.new ≡ after_write (world_of self.old) slot pos bytes.now) }
-        ensures torn { OnErr result ((world_of self.new ≡ after_torn (world_of self.old) slot pos bytes.now)
-            ⊎ (world_of self.new ≡ world_of self.old)) }
+        ensures written { OnOk result (Makes (after_write slot pos bytes.now) (seen_of self.old) (seen_of self.new)) }
+        ensures torn { OnErr result (MayMake (after_torn slot pos bytes.now) (seen_of self.old) (seen_of self.new)) }
+        ensures noted { OnErr result (Notes (after_torn slot pos bytes.now) self.old self.new) }
+        ensures fails { Fails Writes result (seen_of self.old) (seen_of self.new) }
+        ensures called { Called (seen_of self.old) (seen_of self.new) }
         ensures counted { Counted Writes result (counts_of self.old) (counts_of self.new) }
     {
         let listed = self.counts.begin();
@@ -148,9 +171,11 @@ impl Shelf for MemoryStage {
     }
 
     fn cut(&mut self, slot: Slot, len: u64) -> Result<(), Failed>
-        ensures cut { OnOk result (world_of self.new ≡ after_cut (world_of self.old) slot len) }
-        ensures half { OnErr result ((world_of self.new ≡ after_half_cut (world_of self.old) slot len)
-            ⊎ (world_of self.new ≡ world_of self.old)) }
+        ensures cut { OnOk result (Makes (after_cut slot len) (seen_of self.old) (seen_of self.new)) }
+        ensures half { OnErr result (MayMake (after_half_cut slot len) (seen_of self.old) (seen_of self.new)) }
+        ensures noted { OnErr result (Notes (after_half_cut slot len) self.old self.new) }
+        ensures fails { Fails Writes result (seen_of self.old) (seen_of self.new) }
+        ensures called { Called (seen_of self.old) (seen_of self.new) }
         ensures counted { Counted Writes result (counts_of self.old) (counts_of self.new) }
     {
         let listed = self.counts.begin();
@@ -164,8 +189,10 @@ impl Shelf for MemoryStage {
     }
 
     fn sync(&mut self, slot: Slot) -> Result<(), Failed>
-        ensures synced { OnOk result (world_of self.new ≡ after_sync (world_of self.old) slot) }
-        ensures kept { OnErr result (world_of self.new ≡ world_of self.old) }
+        ensures synced { OnOk result (Makes (after_sync slot) (seen_of self.old) (seen_of self.new)) }
+        ensures kept { OnErr result (Stays (seen_of self.old) (seen_of self.new)) }
+        ensures fails { Fails Syncs result (seen_of self.old) (seen_of self.new) }
+        ensures called { Called (seen_of self.old) (seen_of self.new) }
         ensures counted { Counted Syncs result (counts_of self.old) (counts_of self.new) }
     {
         if self.counts.begin() {
@@ -179,24 +206,24 @@ impl Shelf for MemoryStage {
 }
 
 impl Stage for MemoryStage {
-    ghost use Rattle.cckd_shelf.specs.Memory.{world_of, counts_of, faults_of, calls_of};
-    ghost use Rattle.cckd_shelf.specs.Counts.{Counted, NeedsNone};
+    ghost use Rattle.cckd_memory.specs.Memory.{counts_of, seen_of};
+    ghost use Rattle.cckd_memory.specs.Counts.{Counted, NeedsNone};
 
     fn take(&mut self, into: &mut [u8]) -> Result<usize, Failed>
         requires { 0 < length into.old }
         ensures fits { IfOk result (λ n. n ≤ length into.old) }
-        ensures next { IfOk result (λ n. take n into.new ≡ take n (world_of self.old).script) }
-        ensures taken { IfOk result (λ n. n ≤ length (world_of self.old).script) }
-        ensures end { IfOk result (λ n. n ≡ 0 → (world_of self.old).script ≡ []) }
-        ensures left { IfOk result (λ n. world_of self.new ≡ after_take (world_of self.old) n) }
-        ensures kept { OnErr result (world_of self.new ≡ world_of self.old) }
+        ensures next { IfOk result (λ n. AreNext n into.new (seen_of self.old)) }
+        ensures left { IfOk result (λ n. Makes (after_take n) (seen_of self.old) (seen_of self.new)) }
+        ensures kept { OnErr result (Stays (seen_of self.old) (seen_of self.new)) }
+        ensures fails { Fails Takes result (seen_of self.old) (seen_of self.new) }
+        ensures called { Called (seen_of self.old) (seen_of self.new) }
         ensures counted { Counted Takes result (counts_of self.old) (counts_of self.new) }
         ensures needs { NeedsNone (counts_of self.old) (counts_of self.new) }
     {
         if self.counts.begin() {
             return Err(self.counts.fail(Kind::Takes));
         }
-        let n = copy_front(&self.script.get()[self.taken..], into);
+        let n = copy_front(self.rest(), into);
         self.taken += n;
         Ok(n)
     }
@@ -204,8 +231,10 @@ impl Stage for MemoryStage {
     fn put(&mut self, bytes: &[u8]) -> Result<usize, Failed>
         ensures fits { IfOk result (λ n. n ≤ length bytes.now) }
         ensures some { IfOk result (λ n. 0 < length bytes.now → 0 < n) }
-        ensures put { IfOk result (λ n. world_of self.new ≡ after_put (world_of self.old) (take n bytes.now)) }
-        ensures kept { OnErr result (world_of self.new ≡ world_of self.old) }
+        ensures put { IfOk result (λ n. Makes (after_put (take n bytes.now)) (seen_of self.old) (seen_of self.new)) }
+        ensures kept { OnErr result (Stays (seen_of self.old) (seen_of self.new)) }
+        ensures fails { Fails Puts result (seen_of self.old) (seen_of self.new) }
+        ensures called { Called (seen_of self.old) (seen_of self.new) }
         ensures counted { Counted Puts result (counts_of self.old) (counts_of self.new) }
     {
         if self.counts.begin() {

@@ -8,8 +8,10 @@ pub enum Op {
     Write { slot: u8, pos: u64, bytes: Bytes },
     /// A write that failed, of which any part may have been made.
     Torn { slot: u8, pos: u64, bytes: Bytes },
-    /// The file was cut to `len` bytes. After a cut that failed it may be as it was.
+    /// The file was cut to `len` bytes.
     Cut { slot: u8, len: u64 },
+    /// A cut that failed, and may have been made.
+    HalfCut { slot: u8, len: u64 },
     Sync { slot: u8 },
-    Out { bytes: Bytes },
+    Put { bytes: Bytes },
 }

@@ -1,22 +1,18 @@
 //! Notes and operations side by side.
 ghost use Rattle.std.specs.Prelude.{◌≡◌, ◌∷◌, [], ◌++◌, length, OnOk, OnErr};
-ghost use Rattle.cckd_shelf.specs.Inside.{note_of, op_count, IsBack};
+ghost use Rattle.cckd_memory.specs.declared.history.Note.TheVariants as note;
+ghost use Rattle.cckd_memory.specs.Inside.{op_count, IsBack};
 
 use crate::history::Note;
 use crate::{Memory, Op};
 
 /// Adds both, or none.
-pub(crate) fn push_both(
-    notes: &mut Vec<Note>,
-    half: bool,
-    ops: &mut Vec<Op>,
-    op: Op,
-) -> Result<(), Memory>
-    ensures notes { OnOk result (notes.new.items ≡ notes.old.items ++ note_of half ∷ []) }
+pub(crate) fn push_both(notes: &mut Vec<Note>, ops: &mut Vec<Op>, op: Op) -> Result<(), Memory>
+    ensures notes { OnOk result (notes.new.items ≡ notes.old.items ++ note.Op ∷ []) }
     ensures ops { OnOk result (ops.new.items ≡ ops.old.items ++ op ∷ []) }
     ensures kept { OnErr result ((notes.new.items ≡ notes.old.items) × (ops.new.items ≡ ops.old.items)) }
 {
-    notes.push(Note::of_op(half))?;
+    notes.push(Note::Op)?;
     if ops.push(op).is_err() {
         let _ = notes.pop();
         return Err(std::alloc::AllocError);
@@ -30,10 +26,7 @@ pub(crate) fn pop_both(notes: &mut Vec<Note>, ops: &mut Vec<Op>)
     ensures { IsBack notes.new.items ops.new.items notes.old.items ops.old.items }
 {
     match notes.pop() {
-        Some(Note::Made) => {
-            let _ = ops.pop();
-        }
-        Some(Note::Half) => {
+        Some(Note::Op) => {
             let _ = ops.pop();
         }
         Some(Note::Bound { .. }) => {}

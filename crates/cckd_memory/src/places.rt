@@ -1,7 +1,7 @@
 //! Files by name, and the slots that have them.
 ghost use Rattle.std.specs.Prelude.{◌≡◌};
-ghost use Rattle.cckd_shelf.specs.World.{is_name};
-ghost use Rattle.cckd_shelf.specs.Inside.{no_place, without};
+ghost use Rattle.cckd_shelf.specs.Events.{is_name};
+ghost use Rattle.cckd_memory.specs.Inside.{no_place, without};
 
 use crate::Bytes;
 use std::alloc::Global;

@@ -1,7 +1,7 @@
-use crate::{Bytes, Failed, FileIn, HostStage, MemoryStage, Op, Shelf, Slot, Stage, image_of};
+use crate::{Bytes, FileIn, MemoryStage, Op, image_of};
+use cckd_shelf::{Failed, Shelf, Slot, Stage};
 use std::alloc::Global;
 use std::test::Fail;
-use std::{env, fs};
 
 fn slot(n: u8) -> Result<Slot, Fail> {
     Ok(Slot::new(n).ok_or("no slot")?)
@@ -19,12 +19,6 @@ fn stage_of(
         bytes: Bytes::of(alloc, file)?,
     })?;
     Ok(MemoryStage::new(alloc, &files, script, failing)?)
-}
-
-#[test]
-fn nine_slots(rt: HostRuntime) {
-    assert_eq!(rt; Slot::new(8).map(|slot| slot.get()), Some(8));
-    assert_eq!(rt; Slot::new(9), None);
 }
 
 /// Reads where the range lies within the file, and answers the file's length.
@@ -151,35 +145,6 @@ fn a_name_moves_to_another_slot(rt: HostRuntime) -> Result<(), Fail> {
     assert_eq!(rt; stage.len(slot(0)?)?, 0);
     assert_eq!(rt; stage.len(slot(1)?)?, 4);
     assert_eq!(rt; stage.file("v"), Some(b"abcd".as_slice()));
-    Ok(())
-}
-
-#[test]
-fn real_files_are_written_and_read_back(rt: HostRuntime) -> Result<(), Fail> {
-    let folder = env::temp_dir(&rt)?;
-    let name = format!(in rt.alloc();
-        "{}/cckd_shelf_test_{}",
-        folder.as_str(),
-        std::process::id(rt.process())
-    )?;
-    let mut stage = HostStage::new(rt, rt.alloc());
-    let base = slot(0)?;
-    stage.bind(base, name.as_str())?;
-    stage.cut(base, 0)?;
-    stage.sync(base)?;
-    assert_eq!(rt; stage.len(base)?, 0);
-    assert!(rt;
-        fs::metadata(&rt, name.as_str()).is_err(),
-        "a cut and a sync make no file"
-    );
-    stage.write(base, 3, b"defg")?;
-    stage.cut(base, 6)?;
-    stage.sync(base)?;
-    let mut all = [1u8; 6];
-    assert_eq!(rt; read_part(&mut stage, base, 0, &mut all)?, 6);
-    assert_eq!(rt; all.as_slice(), b"\0\0\0def".as_slice());
-    assert_eq!(rt; stage.read(base, 4, &mut all), Err(Failed));
-    fs::remove_file(&rt, name.as_str())?;
     Ok(())
 }
 

@@ -100,3 +100,11 @@ name_was_bound (Bound u taken bytes ∷ es) slot name e =
       | inr a ↦ let kept = kept_name (name_of es slot) taken name (sym (cond-false (u == slot) (Some taken) _ a) ∙ e) in
           either_true (bytes_eq taken name) (was_bound es name) (name_was_bound es slot name kept.0)
     ]
+
+-- what is done to a slot is about another slot's file exactly where it is that slot
+pub about_is : (es : List Event) (slot other : ℕ) → is_about es slot (goes_by es other) ≡ (slot == other)
+about_is es slot other =
+    elim (cases_Bool (slot == other)) [
+      | inl k ↦ subst (λ (n : ℕ). is_about es slot (goes_by es n) ≡ true) (eqb-true slot other k) (about_own es slot) ∙ sym k
+      | inr k ↦ about_other es slot other (eqb-false slot other k) ∙ sym k
+    ]

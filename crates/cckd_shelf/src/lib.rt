@@ -4,6 +4,7 @@
 mod fault;
 mod shelf;
 mod shows;
+mod sink;
 mod slot;
 mod stage;
 #[cfg(test)]
@@ -12,5 +13,6 @@ mod tests;
 pub use fault::{Failed, Faults, Kind};
 pub use shelf::Shelf;
 pub use shows::Shows;
+pub use sink::put_all;
 pub use slot::Slot;
 pub use stage::Stage;

@@ -1,5 +1,5 @@
 use Rattle.std.proofs.Common.{take}
-use Rattle.cckd_shelf.specs.Outcomes.{events_from}
+use Rattle.cckd_memory.specs.Ops.{events_from}
 use Rattle.cckd_memory.proofs.ImageLemmas.{held_more, left_more, from_more}
 use Rattle.cckd_memory.proofs.image.image_of.Goals as goal
 

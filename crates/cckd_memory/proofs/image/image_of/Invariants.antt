@@ -1,5 +1,6 @@
 use Rattle.std.proofs.Common.{take}
-use Rattle.cckd_shelf.specs.Outcomes.{MayHold, IsOutcome, events_from}
+use Rattle.cckd_shelf.specs.Outcomes.{MayHold, IsOutcome}
+use Rattle.cckd_memory.specs.Ops.{events_from}
 use Rattle.cckd_memory.proofs.image.image_of.Given as goal
 
 abbrev pub invariant-loop-op : goal.invariant-loop-op

@@ -1,5 +1,5 @@
 use Rattle.std.proofs.Common.{◌∙◌, ap}
-use Rattle.cckd_shelf.specs.World.{fresh}
+use Rattle.cckd_memory.specs.Files.{fresh}
 use Rattle.cckd_memory.proofs.memory.MemoryStage.new.Goals as goal
 
 pub returns-clause-world : goal.returns-clause-world

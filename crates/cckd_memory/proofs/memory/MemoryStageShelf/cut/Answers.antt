@@ -1,11 +1,23 @@
-use Rattle.std.proofs.Common.{drop, inl, inr}
+use Rattle.std.proofs.Common.{◌+◌, ◌-◌, ◌^◌, ◌∙◌, ap, min, drop, inl, inr}
 use Rattle.cckd_memory.proofs.memory.MemoryStageShelf.cut.Goals as goal
 
 pub returns-in_default-clause-half : goal.returns-in_default-clause-half
-returns-in_default-clause-half c = inr (c.in_default.ensures.kept (drop c.args.self.now.taken c.args.self.now.script))
+returns-in_default-clause-half c = λ _. inr (c.in_default.ensures.kept (drop c.args.self.now.taken c.args.self.now.script))
+
+pub returns-in_default-clause-noted : goal.returns-in_default-clause-noted
+returns-in_default-clause-noted c = inr (
+  c.fail_wanting.ensures.wanted ∙ ap (λ n. min (n + 1) (2 ^ 64 - 1)) c.begin-listed.ensures.wanted,
+  c.in_default.ensures.kept (drop c.args.self.now.taken c.args.self.now.script),
+)
 
 pub returns-then-listed-clause-half : goal.returns-then-listed-clause-half
-returns-then-listed-clause-half c = inl (rw c.if-listed.true at (c.in-Ok.ensures.cut (drop c.args.self.now.taken c.args.self.now.script)))
+returns-then-listed-clause-half c = λ _. inl (rw c.if-listed.true at (c.in-Ok.ensures.cut (drop c.args.self.now.taken c.args.self.now.script)))
+
+pub returns-then-listed-clause-noted : goal.returns-then-listed-clause-noted
+returns-then-listed-clause-noted c = inl (
+  c.fail.ensures.wanted ∙ c.begin-listed.ensures.wanted,
+  rw c.if-listed.true at (c.in-Ok.ensures.cut (drop c.args.self.now.taken c.args.self.now.script)),
+)
 
 pub returns-clause-cut : goal.returns-clause-cut
-returns-clause-cut c = rw c.if-listed.false at (c.in-Ok.ensures.cut (drop c.args.self.now.taken c.args.self.now.script))
+returns-clause-cut c = λ _. rw c.if-listed.false at (c.in-Ok.ensures.cut (drop c.args.self.now.taken c.args.self.now.script))

@@ -2,7 +2,7 @@ use Rattle.std.proofs.Common.{drop}
 use Rattle.cckd_memory.proofs.memory.MemoryStageShelf.sync.Goals as goal
 
 pub returns-in_default-clause-kept : goal.returns-in_default-clause-kept
-returns-in_default-clause-kept c = c.in_default.ensures.kept (drop c.args.self.now.taken c.args.self.now.script)
+returns-in_default-clause-kept c = λ _. c.in_default.ensures.kept (drop c.args.self.now.taken c.args.self.now.script)
 
 pub returns-clause-synced : goal.returns-clause-synced
-returns-clause-synced c = c.in-Ok.ensures.synced (drop c.args.self.now.taken c.args.self.now.script)
+returns-clause-synced c = λ _. c.in-Ok.ensures.synced (drop c.args.self.now.taken c.args.self.now.script)
