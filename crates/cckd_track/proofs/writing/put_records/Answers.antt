@@ -1,4 +1,4 @@
-use Rattle.std.proofs.Common.{◌≡◌, ℕ, arith, sym, ap}
+use Rattle.std.proofs.Common.{◌≡◌, ℕ, arith, ap}
 use Rattle.std.specs.List.{flat_map}
 use Rattle.cckd_base.specs.Track.{spelling, null_records}
 use Rattle.cckd_base.proofs.PutLemmas.{puts_join, put_as}
