@@ -1,6 +1,7 @@
 -- For callers: two pieces share no byte, and what is placed shares none with a piece that isn't Free.
 use Rattle.std.proofs.Common.{◌≡◌, ◌⊎◌, ℕ, ◌+◌, ◌≤◌, min, nat_le, true, false, List, [], ◌∷◌, Option, Some, None, IfSome, refl, sym, ◌∙◌, ap, subst, inl, inr, arith}
 use Rattle.std.proofs.lemmas.Bool.{and_parts, cond_both, cond-false, leb-true}
+use Rattle.cckd_base.specs.Image.{ShareNoByte}
 use Rattle.cckd_space.specs.declared.piece.Piece.{Piece}
 use Rattle.cckd_space.specs.Pieces.{Has, is_free, first, replaced, has_room, has_room_below, aligned_up, piece_end, used_end, end_place, reserved_piece, reserved_in, IsLaid}
 use Rattle.cckd_space.specs.Plan.{IsClear, first_fit, first_fit_below, place_of, with_reserved}
@@ -8,7 +9,7 @@ use Rattle.cckd_space.proofs.LaidLemmas.{below_room, laid_le, room_facts}
 use Rattle.cckd_space.proofs.CallerLemmas.{first_has, has_replaced, laid_has, placed_keeps}
 
 -- two pieces of a list are one, or share no byte
-pub laid_apart : (at : ℕ) (ps : List Piece) (end : ℕ) (p q : Piece) → IsLaid at ps end → Has p ps → Has q ps → (p ≡ q) ⊎ ((piece_end p ≤ q.pos) ⊎ (piece_end q ≤ p.pos))
+pub laid_apart : (at : ℕ) (ps : List Piece) (end : ℕ) (p q : Piece) → IsLaid at ps end → Has p ps → Has q ps → (p ≡ q) ⊎ ShareNoByte p.pos p.size q.pos q.size
 laid_apart at [] end p q l h k = absurd h
 laid_apart at (x ∷ xs) end p q l h k = elim h [
   | inl a ↦ elim k [
@@ -22,7 +23,7 @@ laid_apart at (x ∷ xs) end p q l h k = elim h [
 ]
 
 -- two Reserved pieces at two places share no byte
-pub two_reserved : (ps : List Piece) (end a n b m : ℕ) → IsLaid 0 ps end → Has (reserved_piece a n) ps → Has (reserved_piece b m) ps → (a ≡ b → ⊥) → (a + n ≤ b) ⊎ (b + m ≤ a)
+pub two_reserved : (ps : List Piece) (end a n b m : ℕ) → IsLaid 0 ps end → Has (reserved_piece a n) ps → Has (reserved_piece b m) ps → (a ≡ b → ⊥) → ShareNoByte a n b m
 two_reserved ps end a n b m laid h k differ = elim (laid_apart 0 ps end (reserved_piece a n) (reserved_piece b m) laid h k) [
   | inl same ↦ absurd (differ (ap (λ (p : Piece). p.pos) same))
   | inr far ↦ far

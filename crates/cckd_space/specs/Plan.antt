@@ -1,6 +1,7 @@
 -- What callers see of a `Space`, and what each call makes of it.
-use Rattle.std.specs.Prelude.{◌≡◌, ℕ, ◌+◌, ◌-◌, ◌<◌, ◌≤◌, ◌%◌, ◌⊎◌, Bool, false, ◌&&◌, nat_le, nat_lt, length, List, Option, None, Some}
+use Rattle.std.specs.Prelude.{◌≡◌, ℕ, ◌+◌, ◌-◌, ◌<◌, ◌≤◌, ◌%◌, Bool, false, ◌&&◌, nat_le, nat_lt, length, List, Option, None, Some}
 use Rattle.std.specs.Option.{option_map, unwrap_or}
+use Rattle.cckd_base.specs.Image.{ShareNoByte}
 use Rattle.cckd_base.specs.declared.space.Full.{Full}
 use Rattle.cckd_base.specs.declared.space.Extent.{Extent}
 use Rattle.cckd_space.specs.declared.piece.Piece.{Piece}
@@ -20,7 +21,7 @@ pub record IsSound (plan : Plan) : Type 0 where
 
 -- so many bytes from a place share none with a piece that isn't Free
 pub record IsClear (pieces : List Piece) (pos need : ℕ) : Type 0 where
-  pub each : (p : Piece) → Has p pieces → is_free p ≡ false → (piece_end p ≤ pos) ⊎ (pos + need ≤ p.pos)
+  pub each : (p : Piece) → Has p pieces → is_free p ≡ false → ShareNoByte p.pos p.size pos need
 
 -- a byte of the file lies in a piece
 abbrev pub has_byte : ℕ → Piece → Bool
