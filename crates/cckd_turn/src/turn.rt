@@ -1,6 +1,6 @@
 //! A call: taking the value, and giving it back.
 ghost use Rattle.std.specs.Prelude.{◌≡◌, ◌≢◌, ◌+◌, ◌*◌, ◌<◌, ◌++◌, [], ◌∷◌, length, None, IfOk, IfErr, OnErr};
-ghost use Rattle.cckd_turn.specs.declared.view.Stage.TheVariants.{Waiting, Holding, Returning};
+ghost use Rattle.cckd_turn.specs.declared.view.PassState.TheVariants.{Waiting, Holding, Returning};
 ghost use Rattle.cckd_turn.specs.Views.{holding, returning, served};
 ghost use Rattle.cckd_turn.specs.Steps.{HasWaited};
 
@@ -130,7 +130,7 @@ impl<V: Stands> TurnTable<V> {
     // Takes the value for a seat whose ticket is served.
     fn take(&self, mut seat: Seat<Option<V>, View<V::Entry>>, looks: u64) -> Taken<V>
         requires table { seat.table_id ≡ table_id_of self.now }
-        requires served { (seat.me.1 ≡ []) × (seat.me.0.stage ≡ Waiting)
+        requires served { (seat.me.1 ≡ []) × (seat.me.0.state ≡ Waiting)
             × (seat.me.0.ticket ≡ length seat.me.0.seen) }
         requires terms { (seat.me.0.callers ≡ callers_of self.now)
             × (seat.me.0.each ≡ calls_each_of self.now) }
