@@ -2,6 +2,7 @@
 #![tactic(auto)]
 
 ghost use Rattle.cckd_host.specs.Words.{IsRun};
+ghost use Rattle.cckd_shelf.specs.Seen.{seen};
 ghost use Rattle.cckd_top.specs.Explained.{IsExplained};
 
 mod source;
@@ -10,7 +11,7 @@ mod tests;
 mod words;
 
 use cckd_files::HostStage;
-use cckd_shelf::Stage;
+use cckd_shelf::{Stage, put_all};
 use cckd_top::run_plain;
 pub use source::WordSource;
 use std::alloc::Global;
@@ -20,22 +21,11 @@ pub use words::words_of;
 /// The status where memory for the words is wanted.
 const NO_MEMORY: u8 = 8;
 
-/// Says that memory is wanted, as far as the output takes it.
-fn tell_no_memory<T: Stage>(stage: &mut T) {
-    let text = b"no memory\n".as_slice();
-    let mut put = 0;
-    while put < text.len() {
-        match stage.put(&text[put..]) {
-            Ok(count) => put += count,
-            Err(_) => break,
-        }
-    }
-}
-
 /// Runs on this stage with the words of a source, and answers the status. Where there was no memory for the words, it says so.
 pub fn run_from<T: Stage, W: WordSource>(stage: T, alloc: Global, source: &W) -> (T, u8)
-    ensures { IsRun W.tells (W.words source.now) (λ words. IsExplained T.tells (T.world stage) (T.world result.0)
-        (T.faults stage) (T.faults result.0) words result.1) result.1 }
+    ensures { IsRun W.tells (W.words source.now)
+        (λ words. IsExplained (seen T.Shows stage) (seen T.Shows result.0) words result.1)
+        (seen T.Shows stage) (seen T.Shows result.0) result.1 }
 {
     let mut stage = stage;
     match words_of(source, alloc) {
@@ -44,7 +34,8 @@ pub fn run_from<T: Stage, W: WordSource>(stage: T, alloc: Global, source: &W) ->
             (stage, status.code)
         }
         Err(_) => {
-            tell_no_memory(&mut stage);
+            // Where that can't be put either, the status says it.
+            let _ = put_all(&mut stage, b"no memory\n");
             (stage, NO_MEMORY)
         }
     }
