@@ -3,17 +3,17 @@ use Rattle.std.proofs.Common.{◌≡◌, ◌≢◌, ◌↔◌, ◌⊎◌, ℕ, �
 use Rattle.std.specs.Prelude.{not}
 use Rattle.std.specs.List.{flat_map}
 use Rattle.std.specs.Str.{bytes_eq}
-use Rattle.std.proofs.lemmas.Bool.{cases_lt, cases_eq, cases_Bool, ltb-true, ltb-false, eqb-true, eqb-false}
+use Rattle.std.proofs.lemmas.Bool.{ltb-true, ltb-false, eqb-true, eqb-false}
 use Rattle.std.proofs.lemmas.List.{take-append-drop, take_all}
 use Rattle.std.proofs.lemmas.Slice.Eq.{bytes_eq-Decides}
-use Rattle.cckd_base.specs.declared.geometry.Layout.{Layout}
+use Rattle.cckd_base.specs.declared.geometry.Geometry.{Geometry}
 use Rattle.cckd_base.specs.declared.fault.TrackFault.{TrackFault}
 use Rattle.cckd_base.specs.declared.fault.TrackFault.TheVariants.{NoEnd, BadRecord}
-use Rattle.cckd_base.specs.Geometry.{IsLayout}
+use Rattle.cckd_base.specs.Geometry.{IsGeometry}
 use Rattle.cckd_base.specs.Track.{CountKeyData, address_bytes, spelled_track, spelling, end_mark, AreRecords, IsTrack, key_length, body_length, may_stand, end_verdict, record_at, records_fault, track_fault}
 use Rattle.cckd_base.proofs.GrammarLemmas.{IsBytes, IsBytes-drop}
 use Rattle.cckd_base.proofs.StopLemmas.{RecordsStop, records_stop}
-use Rattle.cckd_base.proofs.TrackLemmas.{HasHome, home_passed, too_long, no_home, compressed, elsewhere, track_passes}
+use Rattle.cckd_base.proofs.TrackLemmas.{HasHome, home_passed, starts_home, parts_faultless, accepted_length_lem, track_passes}
 
 -- ---- what a place says at which no record stands
 
@@ -67,21 +67,10 @@ ended at bytes e =
 
 -- ---- the law
 
-pub has_home : (l : Layout) (t : ℕ) (bytes : List ℕ) → track_fault l t bytes ≡ None → HasHome l t bytes
-has_home l t bytes none =
-    elim (cases_lt l.geo.track_size (length bytes)) [
-      | inl more ↦ let e = too_long l t bytes more in absurd cc
-      | inr within ↦ elim (cases_lt (length bytes) 5) [
-        | inl short ↦ let e = no_home l t bytes within short in absurd cc
-        | inr long ↦ elim (cases_eq (get_or bytes 0 0 % 4) 0) [
-          | inl plain ↦ elim (cases_Bool (bytes_eq (take 4 (drop 1 bytes)) (address_bytes (t / l.geo.heads) (t % l.geo.heads)))) [
-            | inl here ↦ record { within = within; long = long; plain = plain; here = (bytes_eq-Decides _ _).0 here }
-            | inr other ↦ let e = elsewhere l t bytes within long plain other in absurd cc
-          ]
-          | inr other ↦ let e = compressed l t bytes within long other in absurd cc
-        ]
-      ]
-    ]
+pub has_home : (geo : Geometry) (t : ℕ) (bytes : List ℕ) → track_fault geo t bytes ≡ None → HasHome geo t bytes
+has_home geo t bytes none =
+    let home = starts_home geo t bytes (parts_faultless geo t bytes none).home in
+    record { within = (accepted_length_lem geo t bytes none).1; long = home.long; plain = home.plain; here = home.here }
 
 home_split : (bytes : List ℕ) → 5 ≤ length bytes → bytes ≡ get_or bytes 0 0 ∷ (take 4 (drop 1 bytes) ++ drop 5 bytes)
 home_split [] long = absurd (omega arith)
@@ -91,11 +80,11 @@ pub begins_with_records : (rs : List CountKeyData) → (rs ≡ []) ⊎ AreRecord
 begins_with_records rs (inl none) other = absurd (other (ap (λ (s : List CountKeyData). 5 + length (flat_map spelling s)) none))
 begins_with_records rs (inr records) other = records
 
-pub track_of_home : (l : Layout) (t : ℕ) (bytes : List ℕ) → HasHome l t bytes → RecordsStop (drop 5 bytes) None → IsTrack l t bytes
+pub track_of_home : (geo : Geometry) (t : ℕ) (bytes : List ℕ) → HasHome geo t bytes → RecordsStop (drop 5 bytes) None → IsTrack geo t bytes
 unfolding spelled_track
-track_of_home l t bytes home s =
+track_of_home geo t bytes home s =
     let mark = ended _ _ s.stop in
-    let address = address_bytes (t / l.geo.heads) (t % l.geo.heads) in
+    let address = address_bytes (t / geo.heads) (t % geo.heads) in
     let behind : drop 5 bytes ≡ flat_map spelling s.records ++ end_mark = s.front ∙ ap (λ (b : List ℕ). flat_map spelling s.records ++ b) mark.1 in (
       get_or bytes 0 0,
       s.records,
@@ -107,11 +96,11 @@ track_of_home l t bytes home s =
       },
     )
 
-pub faultless_is_track : (l : Layout) (t : ℕ) (bytes : List ℕ) → IsBytes bytes → track_fault l t bytes ≡ None → IsTrack l t bytes
-faultless_is_track l t bytes byte none =
-    let home = has_home l t bytes none in
-    let left : records_fault 5 0 (drop 5 bytes) ≡ None = sym (home_passed l t bytes home) ∙ none in
-    track_of_home l t bytes home (subst (RecordsStop (drop 5 bytes)) left (records_stop (drop 5 bytes) (IsBytes-drop 5 bytes byte)))
+pub faultless_is_track : (geo : Geometry) (t : ℕ) (bytes : List ℕ) → IsBytes bytes → track_fault geo t bytes ≡ None → IsTrack geo t bytes
+faultless_is_track geo t bytes byte none =
+    let home = has_home geo t bytes none in
+    let left : records_fault 5 0 (drop 5 bytes) ≡ None = sym (home_passed geo t bytes home) ∙ none in
+    track_of_home geo t bytes home (subst (RecordsStop (drop 5 bytes)) left (records_stop (drop 5 bytes) (IsBytes-drop 5 bytes byte)))
 
-pub faultless : (l : Layout) (t : ℕ) (bytes : List ℕ) → IsLayout l → IsBytes bytes → (track_fault l t bytes ≡ None) ↔ IsTrack l t bytes
-faultless l t bytes layout byte = (faultless_is_track l t bytes byte, track_passes l t bytes layout)
+pub faultless : (geo : Geometry) (t : ℕ) (bytes : List ℕ) → IsGeometry geo → IsBytes bytes → (track_fault geo t bytes ≡ None) ↔ IsTrack geo t bytes
+faultless geo t bytes shape byte = (faultless_is_track geo t bytes byte, track_passes geo t bytes shape)

@@ -2,6 +2,7 @@
 use Rattle.std.specs.Prelude.{ℕ, ◌+◌, ◌*◌, ◌/◌, ◌%◌, ◌==◌, if◌then◌else◌, List, ◌++◌, take, drop, Option, Some, None}
 use Rattle.std.specs.Int.{w16, w32}
 use Rattle.cckd_base.specs.declared.order.Order.{Order}
+use Rattle.cckd_base.specs.declared.geometry.Geometry.{Geometry}
 use Rattle.cckd_base.specs.declared.geometry.Layout.{Layout}
 use Rattle.cckd_base.specs.declared.entry.L2Entry.{L2Entry}
 use Rattle.cckd_base.specs.Numbers.{number_of, bytes_of, bytes_at, number_at}
@@ -38,6 +39,11 @@ word_at l file group = number_at l.order w32 file (1024 + 4 * group)
 abbrev pub entry_in_table : Layout → List ℕ → ℕ → ℕ → L2Entry
 entry_in_table l file table t = entry_of l.order (bytes_at file (table + 8 * (t % 256)) 8)
 
+-- the entry that a level-one word gives to all tracks of its group, where it names no table
+abbrev pub group_entry : Layout → ℕ → Option L2Entry
+group_entry l word =
+    if word == 0 then Some (null_entry l.null_fmt) else if word == see_parent then Some parent_entry else None
+
 -- the entry that a level-one word gives a track: a word 0 and a see-parent word speak for the whole group
 abbrev pub entry_by_word : Layout → List ℕ → ℕ → ℕ → L2Entry
 entry_by_word l file word t =
@@ -50,12 +56,12 @@ abbrev pub entry_at : Layout → List ℕ → ℕ → L2Entry
 entry_at l file t = entry_by_word l file (word_at l file (t / 256)) t
 
 -- the bytes that an entry gives a track, where null tracks have these; none where the file below is asked
-abbrev pub bytes_by_entry : (Layout → ℕ → ℕ → List ℕ) → Layout → List ℕ → ℕ → L2Entry → Option (List ℕ)
+abbrev pub bytes_by_entry : (Geometry → ℕ → ℕ → List ℕ) → Layout → List ℕ → ℕ → L2Entry → Option (List ℕ)
 bytes_by_entry null l file t e =
-    if e.pos == 0 then Some (null l t e.len)
+    if e.pos == 0 then Some (null l.geo t e.len)
     else if e.pos == see_parent then None
     else Some (bytes_at file e.pos e.len)
 
 -- the stored bytes of a track
-abbrev pub stored_bytes : (Layout → ℕ → ℕ → List ℕ) → Layout → List ℕ → ℕ → Option (List ℕ)
+abbrev pub stored_bytes : (Geometry → ℕ → ℕ → List ℕ) → Layout → List ℕ → ℕ → Option (List ℕ)
 stored_bytes null l file t = bytes_by_entry null l file t (entry_at l file t)

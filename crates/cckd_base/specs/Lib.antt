@@ -1,4 +1,5 @@
 pub mod Numbers
+pub mod Put
 pub mod Geometry
 pub mod Device
 pub mod Entry
@@ -6,4 +7,5 @@ pub mod Track
 pub mod Header
 pub mod Misfit
 pub mod Survey
+pub mod Image
 pub mod Answer

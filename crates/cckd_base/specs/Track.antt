@@ -1,11 +1,14 @@
 -- A track of a CKD device: home address, records and end mark, and the first fault of bytes that are none.
 use Rattle.std.specs.Prelude.{◌≡◌, ◌<◌, ◌≤◌, ℕ, zero, suc, ◌+◌, ◌^◌, ◌/◌, ◌%◌, ◌==◌, nat_lt, Bool, ◌&&◌, not, if◌then◌else◌, List, [], ◌∷◌, ◌++◌, length, take, drop, replicate, slice_index, pred, Option, Some, None, Result, Ok, Err}
 use Rattle.std.specs.List.{flat_map, AllByRecursion}
+use Rattle.std.specs.Option.{option_or}
 use Rattle.std.specs.Int.{w16, to_be_bytes, from_be_bytes}
 use Rattle.std.specs.Str.{bytes_eq}
-use Rattle.cckd_base.specs.declared.geometry.Layout.{Layout}
+use Rattle.cckd_base.specs.declared.geometry.Geometry.{Geometry}
+use Rattle.cckd_base.specs.declared.geometry.Addr.{Addr}
 use Rattle.cckd_base.specs.declared.fault.TrackFault.{TrackFault}
 use Rattle.cckd_base.specs.declared.fault.TrackFault.TheVariants.{TooLong, NoEnd, Compressed, WrongTrack, BadRecord}
+use Rattle.cckd_base.specs.Geometry.{address_of}
 
 -- a record: the address in its count, its number, key and data
 pub record CountKeyData : Type 0 where
@@ -30,12 +33,12 @@ abbrev pub end_mark : List ℕ
 end_mark = replicate 8 255
 
 -- a flag byte and the address of a track
-abbrev pub home_address : Layout → ℕ → ℕ → List ℕ
-home_address l t flag = flag ∷ address_bytes (t / l.geo.heads) (t % l.geo.heads)
+abbrev pub home_address : Geometry → ℕ → ℕ → List ℕ
+home_address geo t flag = flag ∷ address_bytes (t / geo.heads) (t % geo.heads)
 
 -- home address, records and end mark
-unfoldable pub spelled_track : Layout → ℕ → ℕ → List CountKeyData → List ℕ
-spelled_track l t flag records = home_address l t flag ++ flat_map spelling records ++ end_mark
+unfoldable pub spelled_track : Geometry → ℕ → ℕ → List CountKeyData → List ℕ
+spelled_track geo t flag records = home_address geo t flag ++ flat_map spelling records ++ end_mark
 
 -- a count holds two bytes of cylinder, two of head, one each of number and key length, two of data length
 pub record FitsCount (r : CountKeyData) : Type 0 where
@@ -63,44 +66,33 @@ AreRecords [] = ⊥
 AreRecords (r ∷ rs) = IsRecordZero r × AllByRecursion IsUserRecord rs
 
 -- the bytes are these records of track t, in a flag byte whose low two bits name no compression
-pub record IsTrackOf (l : Layout) (t : ℕ) (bytes : List ℕ) (flag : ℕ) (records : List CountKeyData) : Type 0 where
-  pub spelled : bytes ≡ spelled_track l t flag records
+pub record IsTrackOf (geo : Geometry) (t : ℕ) (bytes : List ℕ) (flag : ℕ) (records : List CountKeyData) : Type 0 where
+  pub spelled : bytes ≡ spelled_track geo t flag records
   pub uncompressed : flag % 4 ≡ 0
   pub in_order : AreRecords records
-  pub fits : length bytes ≤ l.geo.track_size
+  pub fits : length bytes ≤ geo.track_size
 
 -- the bytes of a track: with some flag byte and some records
-abbrev pub IsTrack : Layout → ℕ → List ℕ → Type 0
-IsTrack l t bytes = (flag : ℕ) × (records : List CountKeyData) × IsTrackOf l t bytes flag records
+abbrev pub IsTrack : Geometry → ℕ → List ℕ → Type 0
+IsTrack geo t bytes = (flag : ℕ) × (records : List CountKeyData) × IsTrackOf geo t bytes flag records
 
--- a record zero of eight zero bytes, with the track's own address
-abbrev pub null_record_zero : Layout → ℕ → CountKeyData
-null_record_zero l t = record {
-  cylinder = t / l.geo.heads;
-  head = t % l.geo.heads;
-  number = 0;
-  key = [];
-  body = replicate 8 0;
-}
+-- a record zero of eight zero bytes, with this address
+abbrev pub null_record_zero : Addr → CountKeyData
+null_record_zero a = record { cylinder = a.cyl; head = a.head; number = 0; key = []; body = replicate 8 0 }
 
 -- a record one without key and data
-abbrev pub null_record_one : Layout → ℕ → CountKeyData
-null_record_one l t = record {
-  cylinder = t / l.geo.heads;
-  head = t % l.geo.heads;
-  number = 1;
-  key = [];
-  body = [];
-}
+abbrev pub null_record_one : Addr → CountKeyData
+null_record_one a = record { cylinder = a.cyl; head = a.head; number = 1; key = []; body = [] }
 
--- format 0 has both records, and any other record zero alone
-abbrev pub null_records : Layout → ℕ → ℕ → List CountKeyData
-null_records l t format =
-    null_record_zero l t ∷ (if format == 0 then null_record_one l t ∷ [] else [])
+-- the records of a null track, by its format: both of these, or record zero alone
+abbrev pub null_records : Addr → ℕ → List CountKeyData
+null_records a zero = null_record_zero a ∷ null_record_one a ∷ []
+null_records a (suc zero) = null_record_zero a ∷ []
+null_records a (suc (suc format)) = []
 
 -- the bytes of a null track
-unfoldable pub null_track : Layout → ℕ → ℕ → List ℕ
-null_track l t format = spelled_track l t 0 (null_records l t format)
+unfoldable pub null_track : Geometry → ℕ → ℕ → List ℕ
+null_track geo t format = spelled_track geo t 0 (null_records (address_of geo t) format)
 
 -- the bytes of a track that was accepted, without the other bits of the flag byte
 abbrev pub track_value : List ℕ → List ℕ
@@ -151,15 +143,24 @@ records_fault at zero (b ∷ bytes) =
       | Err verdict ↦ verdict
     ]
 
--- the first fault of bytes as those of track t, if there is one
-unfoldable pub track_fault : Layout → ℕ → List ℕ → Option TrackFault
-track_fault l t bytes =
-    if nat_lt l.geo.track_size (length bytes) then Some (TooLong (length bytes) l.geo.track_size)
-    else if nat_lt (length bytes) 5 then Some (NoEnd (length bytes))
+-- the fault of more bytes than a track of the device may have
+abbrev pub size_fault : Geometry → List ℕ → Option TrackFault
+size_fault geo bytes =
+    if nat_lt geo.track_size (length bytes) then Some (TooLong (length bytes) geo.track_size) else None
+
+-- the first fault of the home address as that of track t
+unfoldable pub home_fault : Geometry → ℕ → List ℕ → Option TrackFault
+home_fault geo t bytes =
+    if nat_lt (length bytes) 5 then Some (NoEnd (length bytes))
     else if not (slice_index bytes 0 % 4 == 0) then Some (Compressed (slice_index bytes 0))
-    else if not (bytes_eq (take 4 (drop 1 bytes)) (address_bytes (t / l.geo.heads) (t % l.geo.heads)))
+    else if not (bytes_eq (take 4 (drop 1 bytes)) (address_bytes (t / geo.heads) (t % geo.heads)))
     then Some (WrongTrack (from_be_bytes w16 (take 2 (drop 1 bytes))) (from_be_bytes w16 (take 2 (drop 3 bytes))))
-    else records_fault 5 0 (drop 5 bytes)
+    else None
+
+-- the first fault of bytes as those of track t, if there is one: of their size, of the home address, or of the records
+unfoldable pub track_fault : Geometry → ℕ → List ℕ → Option TrackFault
+track_fault geo t bytes =
+    option_or (size_fault geo bytes) (option_or (home_fault geo t bytes) (records_fault 5 0 (drop 5 bytes)))
 
 -- the answer is Ok where there is no fault, and else the fault
 abbrev pub OkUnless : Result (Unit {0}) TrackFault → Option TrackFault → Type 0

@@ -1,7 +1,8 @@
 ghost use Rattle.std.specs.Prelude.{◌≡◌, ◌<◌, ◌↔◌, IsTrue, IfSome};
-ghost use Rattle.cckd_base.specs.Geometry.{track_count, track_at, address_of, is_null_format, IsGeometry, IsNullFormat};
+ghost use Rattle.cckd_base.specs.Geometry.{track_count, group_count, area_of, track_at, address_of, is_null_format, IsGeometry, IsNullFormat};
 
 use crate::order::Order;
+use crate::{GROUP_TRACKS, WORDS_AT};
 
 /// A track's number, counted from 0 through the heads of each cylinder in turn.
 #[derive(Clone, Copy, Debug, PartialEq, Eq)]
@@ -31,6 +32,22 @@ pub struct Geometry {
 }
 
 impl Geometry {
+    /// How many tracks the device has.
+    pub fn tracks(&self) -> u32
+        requires { IsGeometry self.now }
+        ensures { result ≡ track_count self.now }
+    {
+        self.cyls * self.heads
+    }
+
+    /// How many groups of 256 tracks it has, the last of which may be short.
+    pub fn groups(&self) -> u32
+        requires { IsGeometry self.now }
+        ensures { result ≡ group_count self.now }
+    {
+        self.tracks().div_ceil(GROUP_TRACKS)
+    }
+
     /// The number of the track at an address, which `addr` undoes.
     pub fn track(&self, a: Addr) -> Option<Track>
         requires { IsGeometry self.now }
@@ -79,4 +96,13 @@ pub struct Layout {
     pub shadow: bool,
     /// The format of the null tracks of a group without a table.
     pub null_fmt: u8,
+}
+
+impl Layout {
+    /// The bytes of the two headers and of the level-one table.
+    pub fn area(&self) -> u64
+        ensures { result ≡ area_of self.now.groups }
+    {
+        u64::from(WORDS_AT) + 4 * u64::from(self.groups)
+    }
 }

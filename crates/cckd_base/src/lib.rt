@@ -3,28 +3,40 @@
 
 mod bytes;
 mod call;
+mod damage;
 mod device;
 mod entry;
 mod fault;
 mod geometry;
+mod layer_fault;
 mod misfit;
+mod open_fault;
 mod order;
+mod put;
 mod reply;
 mod space;
+mod stowed;
 #[cfg(test)]
 mod tests;
+mod turn;
 mod unit;
 
 pub use bytes::part;
 pub use call::Call;
+pub use damage::Damage;
 pub use device::geometry_of;
 pub use entry::{L2Entry, SEE_PARENT};
 pub use fault::{CountField, GeoField, HeaderFault, TrackFault};
 pub use geometry::{Addr, Geometry, Layout, Track};
+pub use layer_fault::{LayerFault, StackFault};
 pub use misfit::{Misfit, ScanFault};
+pub use open_fault::OpenFault;
 pub use order::Order;
+pub use put::put_bytes;
 pub use reply::{Refusal, Reply};
 pub use space::{Extent, Full, Owner};
+pub use stowed::Stowed;
+pub use turn::Turn;
 pub use unit::Unit;
 
 /// The greatest length of an image in bytes.

@@ -1,5 +1,7 @@
-ghost use Rattle.std.specs.Prelude.{◌≡◌};
+ghost use Rattle.std.specs.Prelude.{◌≡◌, ◌≤◌, length};
 ghost use Rattle.std.specs.Int.{w16, w32};
+
+use byteorder::{BigEndian, ByteOrder, LittleEndian};
 
 /// The order of the bytes of an image's own numbers.
 #[derive(Clone, Copy, Debug, PartialEq, Eq)]
@@ -11,7 +13,19 @@ pub enum Order {
 }
 
 impl Order {
-    ghost use Rattle.cckd_base.specs.Numbers.{number_of, bytes_of};
+    ghost use Rattle.cckd_base.specs.Numbers.{number_of, bytes_of, number_at};
+
+    /// The number that the first four bytes spell: a level-one word, or a link of the chain of free spaces.
+    #[tactic(auto, using(crate::proofs::NumberLemmas::big_four, crate::proofs::NumberLemmas::little_four))]
+    pub fn read_u32(self, bytes: &[u8]) -> u32
+        requires { 4 ≤ length bytes.now }
+        ensures { result ≡ number_at self w32 bytes.now 0 }
+    {
+        match self {
+            Order::Little => LittleEndian::read_u32(bytes),
+            Order::Big => BigEndian::read_u32(bytes),
+        }
+    }
 
     /// The number that four bytes spell, from which `u32_bytes` gives the bytes back.
     pub fn u32_of(self, bytes: [u8; 4]) -> u32

@@ -93,3 +93,49 @@ fn a_track_has_its_place(rt: HostRuntime) {
         assert_eq!(rt; disk.admits(fmt), admitted, "{fmt}");
     }
 }
+
+#[test]
+fn words_stand_in_both_orders(rt: HostRuntime) {
+    let bytes = [0x20, 0x0c, 1, 2, 9, 9];
+    for (order, number) in [(Order::Little, 0x0201_0c20), (Order::Big, 0x200c_0102)] {
+        assert_eq!(rt; order.read_u32(bytes.as_slice()), number);
+    }
+}
+
+#[test]
+fn a_layout_has_its_groups_and_its_header_area(rt: HostRuntime) {
+    let rows = [
+        (200, 10, 2_000, 8, 1_056),
+        (1_113, 15, 16_695, 66, 1_288),
+        (65_536, 16, 1_048_576, 4_096, 17_408),
+        (1, 1, 1, 1, 1_028),
+        (257, 1, 257, 2, 1_032),
+    ];
+    for (cyls, heads, tracks, groups, area) in rows {
+        let geo = Geometry {
+            devtype: 0x90,
+            heads,
+            cyls,
+            track_size: 4_096,
+        };
+        assert_eq!(rt; geo.tracks(), tracks);
+        assert_eq!(rt; geo.groups(), groups);
+        let layout = Layout {
+            order: Order::Big,
+            geo,
+            groups,
+            shadow: false,
+            null_fmt: 0,
+        };
+        assert_eq!(rt; layout.area(), area);
+    }
+}
+
+#[test]
+fn bytes_are_put_behind_bytes(rt: HostRuntime) {
+    let mut buffer = [7; 6];
+    let end = put_bytes(buffer.as_mut_slice(), 1, &[1, 2]);
+    assert!(rt; end == 3);
+    assert_eq!(rt; put_bytes(buffer.as_mut_slice(), end, &[3]), 4);
+    assert_eq!(rt; buffer, [7, 1, 2, 3, 7, 7]);
+}

@@ -1,5 +1,5 @@
 -- What the two headers of an image say, field by field, and the bytes that spell them.
-use Rattle.std.specs.Prelude.{◌≤◌, ℕ, ◌/◌, ◌%◌, ◌==◌, if◌then◌else◌, List, [], ◌∷◌, ◌++◌, slice_index, Option, Some, None, Result, Ok, Err}
+use Rattle.std.specs.Prelude.{◌≡◌, ◌≤◌, Bool, true, false, ℕ, ◌/◌, ◌%◌, ◌==◌, if◌then◌else◌, List, [], ◌∷◌, ◌++◌, slice_index, Option, Some, None, Result, Ok, Err}
 use Rattle.std.specs.Str.{bytes_eq}
 use Rattle.std.specs.Int.{w16, w32, cast_signed, cast_unsigned}
 use Rattle.cckd_base.specs.declared.order.Order.{Order}
@@ -21,6 +21,12 @@ abbrev pub identifiers_of : Roles → List (List ℕ)
 identifiers_of Base = base_identifier ∷ []
 identifiers_of Shadow = shadow_identifier ∷ []
 identifiers_of Either = base_identifier ∷ shadow_identifier ∷ []
+
+-- whether a file of these roles is a shadow
+abbrev pub HasRole : Roles → Bool → Type 0
+HasRole Base shadow = shadow ≡ false
+HasRole Shadow shadow = shadow ≡ true
+HasRole Either shadow = Unit {0}
 
 -- the order that the option byte names
 abbrev pub order_by : ℕ → Order
@@ -99,6 +105,18 @@ count_bytes order c =
     bytes_of order w32 c.words ++ (bytes_of order w32 c.entries ++ (bytes_of order w32 c.size
     ++ (bytes_of order w32 c.used ++ (bytes_of order w32 c.free ++ (bytes_of order w32 c.free_total
     ++ (bytes_of order w32 c.free_largest ++ (bytes_of order w32 c.free_number ++ bytes_of order w32 c.free_imbed)))))))
+
+-- each of the nine counts stands in its four bytes
+pub record HasCounts (order : Order) (bytes : List ℕ) (c : CckdHeader) : Type 0 where
+  pub words : number_at order w32 bytes 0 ≡ c.words
+  pub entries : number_at order w32 bytes 4 ≡ c.entries
+  pub size : number_at order w32 bytes 8 ≡ c.size
+  pub used : number_at order w32 bytes 12 ≡ c.used
+  pub free : number_at order w32 bytes 16 ≡ c.free
+  pub free_total : number_at order w32 bytes 20 ≡ c.free_total
+  pub free_largest : number_at order w32 bytes 24 ≡ c.free_largest
+  pub free_number : number_at order w32 bytes 28 ≡ c.free_number
+  pub free_imbed : number_at order w32 bytes 32 ≡ c.free_imbed
 
 -- the bytes of a header of a compressed device
 unfoldable pub cckd_bytes : CckdHeader → List ℕ

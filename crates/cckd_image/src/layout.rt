@@ -30,7 +30,7 @@ impl ImageHeader {
         Layout {
             order: order_in(self.cckd.options),
             geo,
-            groups: (geo.cyls * geo.heads).div_ceil(256),
+            groups: geo.groups(),
             shadow: self.dev.id.as_slice() == b"CKD_S370".as_slice(),
             null_fmt: self.cckd.null_fmt,
         }

@@ -3,8 +3,9 @@
 ghost use Rattle.std.specs.Prelude.{◌≡◌, ◌+◌, ◌≤◌, IfOk, length};
 ghost use Rattle.std.specs.Int.{w16, w32, cast_signed};
 ghost use Rattle.cckd_base.specs.Numbers.{bytes_of, bytes_at, number_at};
+ghost use Rattle.cckd_base.specs.Geometry.{IsLayout};
 ghost use Rattle.cckd_base.specs.Header.{header_fault, layout_of};
-ghost use Rattle.cckd_image.specs.Image.{identifiers_of, dev_header_of, cckd_header_of, decoded, header_of, layout_by, dev_bytes, cckd_bytes, header_bytes, IsHeader};
+ghost use Rattle.cckd_image.specs.Image.{identifiers_of, dev_header_of, cckd_header_of, decoded, header_of, layout_by, dev_bytes, cckd_bytes, header_bytes, IsHeader, IsLength, HasRole};
 
 use crate::header::{CckdHeader, DevHeader, ImageHeader, order_in};
 use crate::roles::Roles;
@@ -87,9 +88,15 @@ fn header_in(headers: &[u8; 1024]) -> ImageHeader
 /// file of these roles. The bytes past the end of a short file are zeros.
 pub fn decode(bytes: &[u8; 1024], len: u64, roles: Roles) -> Result<ImageHeader, HeaderFault>
     ensures answer { result ≡ decoded (header_fault (identifiers_of roles) bytes.now len) (header_of bytes.now) }
+
+    // What the headers say that are accepted, and how the bytes come back.
     ensures sound { IfOk result (λ h. IsHeader h len) }
-    ensures undone { IfOk result (λ h. header_bytes h ≡ bytes.now) }
     ensures layout { IfOk result (λ h. layout_by h ≡ layout_of bytes.now) }
+    ensures image { IfOk result (λ h. IsLayout (layout_by h)) }
+    ensures area { IfOk result (λ h. IsLength (layout_by h).groups len) }
+    ensures role { IfOk result (λ h. HasRole roles (layout_by h).shadow) }
+    ensures undone { IfOk result (λ h. header_bytes h ≡ bytes.now) }
+    ensures again { IfOk result (λ h. header_of (header_bytes h) ≡ h) }
 {
     let header = header_in(bytes);
     match header.fault(len, roles) {

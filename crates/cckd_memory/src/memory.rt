@@ -1,5 +1,5 @@
 //! A stage in memory, which tells all that it holds.
-ghost use Rattle.std.specs.Prelude.{◌≡◌, ◌+◌, ◌^◌, ◌<◌, ◌≤◌, length, map, take, IfOk, OnOk, OnErr};
+ghost use Rattle.std.specs.Prelude.{◌≡◌, ◌+◌, ◌^◌, ◌<◌, ◌≤◌, length, map, drop, take, IfOk, OnOk, OnErr};
 ghost use Rattle.std.specs.Option.{option_copied};
 ghost use Rattle.cckd_shelf.specs.Events.{ops_of, output_of};
 ghost use Rattle.cckd_shelf.specs.declared.fault.Kind.TheVariants.{Reads, Writes, Syncs, Takes, Puts};
@@ -68,6 +68,14 @@ impl MemoryStage {
         ensures { map event_of result.now ≡ ops_of (world_of self.now).events }
     {
         self.held.history.ops()
+    }
+
+    /// What is left of the script.
+    fn rest(&self) -> &[u8]
+        ensures rest { result.now ≡ drop self.now.taken self.now.script }
+        ensures short { self.now.taken + length result.now < 2 ^ 64 }
+    {
+        &self.script.get()[self.taken..]
     }
 
     /// How many calls failed for want of memory.
@@ -215,7 +223,7 @@ impl Stage for MemoryStage {
         if self.counts.begin() {
             return Err(self.counts.fail(Kind::Takes));
         }
-        let n = copy_front(&self.script.get()[self.taken..], into);
+        let n = copy_front(self.rest(), into);
         self.taken += n;
         Ok(n)
     }

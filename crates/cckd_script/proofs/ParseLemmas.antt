@@ -1,216 +1,65 @@
--- The line of a read, and the first column of any other.
-use Rattle.std.proofs.Common.{◌≡◌, ◌↔◌, ⊎_elim, ℕ, ◌+◌, ◌<◌, ◌^◌, ◌&&◌, ◌==◌, nat_le, bytes_eq, Bool, true, false, if◌then◌else◌, List, [], ◌∷◌, ◌++◌, length, drop, codes, decimal, Option, Some, None, Result, Ok, refl, sym, ◌∙◌, ap, arith, append_assoc}
-use Rattle.std.proofs.lemmas.Bool.{cases_Bool, and_parts}
-use Rattle.std.proofs.lemmas.Bool.Decides.{nat_tests}
-use Rattle.std.proofs.lemmas.Fmt.{decimal_is_IsNumeral}
-use Rattle.std.proofs.lemmas.Slice.Eq.{bytes_eq-Decides}
-use Rattle.cckd_base.specs.declared.geometry.Addr.{Addr}
-use Rattle.cckd_base.specs.declared.call.Call.TheVariants.{Read}
-use Rattle.cckd_script.specs.declared.parse.LineFault.{LineFault}
-use Rattle.cckd_script.specs.declared.parse.Number.{Number}
-use Rattle.cckd_script.specs.declared.parse.What.{What}
-use Rattle.cckd_script.specs.declared.parse.What.TheVariants.{Nothing, One}
+-- What a line asks by the tokens that are left behind a place.
+use Rattle.std.proofs.Common.{◌≡◌, ℕ, ◌+◌, ◌-◌, ◌<◌, ◌≤◌, List, [], ◌∷◌, length, drop, slice_range, Option, Some, None, Result, Ok, Err, sym, ◌∙◌, ap, arith, length-drop}
+use Rattle.std.proofs.lemmas.List.{length-take-le}
 use Rattle.cckd_script.specs.Lines.{tokens}
-use Rattle.cckd_script.specs.Parse.{Kind, word, number, number_value, is_number, is_of, fault_column, read_kinds, read_line, address_of, read_or_fault, parsed_tokens, parsed}
-use Rattle.cckd_script.specs.Inside.{rest_tokens, next_column, IsNumberBehind, IsNoNumber, IsNoAddress}
-use Rattle.cckd_script.proofs.TokenLemmas.{joined, joined_tokens, some_behind, behind_place, tokens_digits, tokens_digits_alone}
+use Rattle.cckd_script.specs.Grammar.{Kind, Value, value_of, value_before, values_of}
+use Rattle.cckd_script.specs.Parse.{Form, what_of, what_in, asked_by}
+use Rattle.cckd_script.specs.Inside.{rest_tokens, values_behind, IsBehind, IsNone, AsksFor}
+use Rattle.cckd_script.proofs.TokenLemmas.{behind_place, some_behind, none_behind}
 
--- a decimal spelling has its number
-value_of_decimal : (n : ℕ) → n < 65536 → number_value (decimal n) ≡ n
-value_of_decimal n small = (decimal_is_IsNumeral n (omega arith)).1
-
-le_test : (n : ℕ) → n < 65536 → nat_le n 65535 ≡ true
-le_test n small = grind (arith, nat_tests)
-
-le_told : (n : ℕ) → nat_le n 65535 ≡ true → n < 65536
-le_told n told = grind (arith, nat_tests)
-
-both : (a b : Bool) → a ≡ true → b ≡ true → (a && b) ≡ true
-both a b e h = rw (e, h) refl
-
--- a decimal spelling is a number
-pub decimal_is_number : (n : ℕ) → n < 65536 → is_number 65535 (decimal n) ≡ true
-decimal_is_number n small =
-    let value = value_of_decimal n small in
-    both (bytes_eq (decimal n) (decimal (number_value (decimal n)))) (nat_le (number_value (decimal n)) 65535)
-    ((bytes_eq-Decides (decimal n) (decimal (number_value (decimal n)))).1 (ap decimal (sym value)))
-    (ap (λ (m : ℕ). nat_le m 65535) value ∙ le_test n small)
-
--- what a number is
-pub record IsSpelled (token : List ℕ) : Type 0 where
-  pub spelled : token ≡ decimal (number_value token)
-  pub small : number_value token < 65536
-
-pub number_is_decimal : (token : List ℕ) → is_number 65535 token ≡ true → IsSpelled token
-number_is_decimal token passes =
-    let parts = and_parts (bytes_eq token (decimal (number_value token))) (nat_le (number_value token) 65535) passes in
+-- a token of a kind behind a place
+pub token_passes : (line : List ℕ) (end after : ℕ) (kind : Kind) (value : Value) → end < length line → end + 1 ≤ after → after ≤ length line
+    → tokens (drop (end + 1) line) ≡ slice_range line (end + 1) after ∷ rest_tokens line after
+    → value_of kind (slice_range line (end + 1) after) ≡ Some value → IsBehind line end kind value after
+token_passes line end after kind value inside later within cut says =
+    let token = slice_range line (end + 1) after in
+    let len : length token ≡ after - (end + 1) = length-take-le (after - (end + 1)) (drop (end + 1) line) (omega (arith, length-drop (end + 1) line)) in
+    let place : end + 2 + length token + 1 ≡ after + 2 = omega (arith, len) in
     record {
-      spelled = (bytes_eq-Decides token (decimal (number_value token))).0 parts.0;
-      small = le_told (number_value token) parts.1;
+      passes = λ kinds.
+          ap (values_of (end + 2) (kind ∷ kinds)) (behind_place line end inside ∙ cut)
+          ∙ ap (λ (o : Option Value). value_before (end + 2) o (values_of (end + 2 + length token + 1) kinds (rest_tokens line after))) says
+          ∙ ap (λ (column : ℕ). value_before (end + 2) (Some value) (values_of column kinds (rest_tokens line after))) place;
+      within = within;
     }
 
--- what is the spelling of no number is none
-pub no_number : (token : List ℕ) → ((n : ℕ) → n < 2 ^ 16 → ¬ (token ≡ decimal n)) → is_number 65535 token ≡ false
-no_number token none =
-    ⊎_elim
-    (λ (passes : is_number 65535 token ≡ true).
-    let is = number_is_decimal token passes in
-    absurd (none (number_value token) (omega (arith, is.small)) is.spelled))
-    (λ (fails : is_number 65535 token ≡ false). fails)
-    (cases_Bool (is_number 65535 token))
+-- a token behind a place that is of another kind
+pub token_stops : (line : List ℕ) (end after : ℕ) (kind : Kind) → end < length line
+    → tokens (drop (end + 1) line) ≡ slice_range line (end + 1) after ∷ rest_tokens line after
+    → value_of kind (slice_range line (end + 1) after) ≡ None → IsNone line end kind (end + 1 + 1)
+token_stops line end after kind inside cut says kinds =
+    let token = slice_range line (end + 1) after in
+    let place : end + 2 ≡ end + 1 + 1 = omega arith in
+    ap (values_of (end + 2) (kind ∷ kinds)) (behind_place line end inside ∙ cut)
+    ∙ ap (λ (o : Option Value). value_before (end + 2) o (values_of (end + 2 + length token + 1) kinds (rest_tokens line after))) says
+    ∙ ap (λ (column : ℕ). Err column) place
 
--- a token that passes is passed over
-pub passed_over : (column : ℕ) (kind : Kind) (kinds : List Kind) (token : List ℕ) (rest : List (List ℕ)) → is_of kind token ≡ true
-    → fault_column column (kind ∷ kinds) (token ∷ rest) ≡ fault_column (column + length token + 1) kinds rest
-passed_over column kind kinds token rest passes =
-    ap (λ (t : Bool). if t then fault_column (column + length token + 1) kinds rest else Some column) passes
+-- a token that is missing
+pub token_missing : (line : List ℕ) (end : ℕ) (kind : Kind) → end ≡ length line → IsNone line end kind (end + 1)
+token_missing line end kind last kinds =
+    let place : end + 2 - 1 ≡ end + 1 = omega arith in
+    ap (values_of (end + 2) (kind ∷ kinds)) (none_behind line end last) ∙ ap (λ (column : ℕ). Err column) place
 
--- and one that doesn't is the fault
-pub stopped_at : (column : ℕ) (kind : Kind) (kinds : List Kind) (token : List ℕ) (rest : List (List ℕ)) → is_of kind token ≡ false
-    → fault_column column (kind ∷ kinds) (token ∷ rest) ≡ Some column
-stopped_at column kind kinds token rest fails =
-    ap (λ (t : Bool). if t then fault_column (column + length token + 1) kinds rest else Some column) fails
+-- nothing behind a place
+pub nothing_more : (line : List ℕ) (end : ℕ) → end ≡ length line → values_behind line end [] ≡ Ok []
+nothing_more line end last = ap (values_of (end + 2) []) (none_behind line end last)
 
--- a number behind a place is passed over
-pub number_passes : (line : List ℕ) (end : ℕ) (n : Number) (kinds : List Kind) → IsNumberBehind line end n
-    → fault_column (next_column end) (number 65535 ∷ kinds) (rest_tokens line end)
-    ≡ fault_column (next_column n.end) kinds (rest_tokens line n.end)
-number_passes line end n kinds is =
-    let ends = is.ends in
-    let place : next_column end + length (decimal n.value) + 1 ≡ next_column n.end = omega arith in
-    ap (fault_column (next_column end) (number 65535 ∷ kinds)) is.cut
-    ∙ passed_over (next_column end) (number 65535) kinds (decimal n.value) (rest_tokens line n.end) (decimal_is_number n.value is.small)
-    ∙ ap (λ (column : ℕ). fault_column column kinds (rest_tokens line n.end)) place
+-- a token too many
+pub one_too_many : (line : List ℕ) (end : ℕ) → end < length line → values_behind line end [] ≡ Err (end + 2)
+one_too_many line end inside = ap (values_of (end + 2) []) (some_behind line end inside)
 
--- a token behind a place that is no number is the fault
-pub number_stops : (line token : List ℕ) (end : ℕ) (rest : List (List ℕ)) → end < length line
-    → tokens (drop (end + 1) line) ≡ token ∷ rest
-    → ((n : ℕ) → n < 2 ^ 16 → ¬ (token ≡ decimal n)) → IsNoNumber line end (end + 1 + 1)
-number_stops line token end rest within cut none kinds =
-    let column : next_column end ≡ end + 1 + 1 = omega arith in
-    ap (fault_column (next_column end) (number 65535 ∷ kinds)) (behind_place line end within ∙ cut)
-    ∙ stopped_at (next_column end) (number 65535) kinds token rest (no_number token none)
-    ∙ ap (λ (c : ℕ). Some c) column
+-- a token of a kind and what the tokens behind it say
+pub then_values : (line : List ℕ) (end after : ℕ) (kind : Kind) (value : Value) (kinds : List Kind) (more : Result (List Value) ℕ)
+    → IsBehind line end kind value after → values_behind line after kinds ≡ more
+    → values_behind line end (kind ∷ kinds) ≡ value_before (end + 2) (Some value) more
+then_values line end after kind value kinds more is rest = is.passes kinds ∙ ap (value_before (end + 2) (Some value)) rest
 
--- the tokens behind an address are too many
-pub address_stops : (line : List ℕ) (end : ℕ) (cylinder head : Number) → IsNumberBehind line end cylinder
-    → IsNumberBehind line cylinder.end head → head.end < length line → IsNoAddress line end (head.end + 2)
-address_stops line end cylinder head first second within =
-    number_passes line end cylinder (number 65535 ∷ []) first
-    ∙ number_passes line cylinder.end head [] second
-    ∙ ap (fault_column (next_column head.end) []) (some_behind line head.end within)
+-- a form whose tokens stop somewhere is a fault there
+pub asks_none : (form : Form) (line : List ℕ) (end column : ℕ) → values_behind line end form.kinds ≡ Err column
+    → AsksFor form line end (Err (record { column = column }))
+asks_none form line end column e = sym (ap (λ (r : Result (List Value) ℕ). what_in (asked_by form r)) e)
 
--- a fault at the second number
-pub head_stops : (line : List ℕ) (end column : ℕ) (cylinder : Number) → IsNumberBehind line end cylinder
-    → IsNoNumber line cylinder.end column → IsNoAddress line end column
-head_stops line end column cylinder first second =
-    number_passes line end cylinder (number 65535 ∷ []) first ∙ second []
-
--- the tokens of a read
-abbrev pub read_tokens : Addr → List (List ℕ)
-read_tokens at = codes "read" ∷ decimal at.cyl ∷ decimal at.head ∷ []
-
--- the address of this cylinder and head
-abbrev addr : ℕ → ℕ → Addr
-addr cylinder head = record { cyl = cylinder; head = head }
-
-same_addr : (cylinder head : ℕ) (at : Addr) → cylinder ≡ at.cyl → head ≡ at.head → addr cylinder head ≡ at
-same_addr cylinder head at e h = ap (λ (c : ℕ). addr c head) e ∙ ap (addr at.cyl) h
-
-pub read_is_parsed : (parts : List (List ℕ)) (at : Addr) → at.cyl < 65536 → at.head < 65536 → parts ≡ read_tokens at
-    → parsed_tokens parts ≡ Ok (One (Read at))
-read_is_parsed parts at cylinder_small head_small e =
-    let cylinder = decimal_is_number at.cyl cylinder_small in
-    let head = decimal_is_number at.head head_small in
-    let none : fault_column 1 read_kinds (read_tokens at) ≡ None =
-    passed_over 6 (number 65535) (number 65535 ∷ []) (decimal at.cyl) (decimal at.head ∷ []) cylinder
-    ∙ passed_over (6 + length (decimal at.cyl) + 1) (number 65535) [] (decimal at.head) [] head in
-    let place : address_of (read_tokens at) ≡ at =
-    same_addr (number_value (decimal at.cyl)) (number_value (decimal at.head)) at (value_of_decimal at.cyl cylinder_small)
-    (value_of_decimal at.head head_small) in
-    ap parsed_tokens e
-    ∙ ap (λ (o : Option ℕ). read_or_fault o (read_tokens at)) none
-    ∙ ap (λ (a : Addr). Ok (One (Read a))) place
-
--- what an answer without a fault says
-none_of : (o : Option ℕ) (parts : List (List ℕ)) (at : Addr) → read_or_fault o parts ≡ Ok (One (Read at))
-    → (o ≡ None) × (address_of parts ≡ at)
-none_of None parts at e = (refl, cc)
-none_of (Some column) parts at e = cc
-
-passes_if : (t : Bool) (o : Option ℕ) (column : ℕ) → (if t then o else Some column) ≡ None → (t ≡ true) × (o ≡ None)
-passes_if true o column e = (refl, e)
-passes_if false o column e = cc
-
--- a token before which there is no fault
-none_passes : (column : ℕ) (kind : Kind) (kinds : List Kind) (token : List ℕ) (rest : List (List ℕ))
-    → fault_column column (kind ∷ kinds) (token ∷ rest) ≡ None
-    → (is_of kind token ≡ true) × (fault_column (column + length token + 1) kinds rest ≡ None)
-none_passes column kind kinds token rest e =
-    passes_if (is_of kind token) (fault_column (column + length token + 1) kinds rest) column e
-
-tokens_are : (parts : List (List ℕ)) (at : Addr) → fault_column 1 read_kinds parts ≡ None → address_of parts ≡ at
-    → parts ≡ read_tokens at
-tokens_are [] at none place = cc
-tokens_are (a ∷ []) at none place =
-    let first = none_passes 1 (word (codes "read")) (number 65535 ∷ number 65535 ∷ []) a [] none in
-    let more = first.1 in cc
-tokens_are (a ∷ b ∷ []) at none place =
-    let first = none_passes 1 (word (codes "read")) (number 65535 ∷ number 65535 ∷ []) a (b ∷ []) none in
-    let second = none_passes (1 + length a + 1) (number 65535) (number 65535 ∷ []) b [] first.1 in
-    let more = second.1 in cc
-tokens_are (a ∷ b ∷ c ∷ []) at none place =
-    let first = none_passes 1 (word (codes "read")) (number 65535 ∷ number 65535 ∷ []) a (b ∷ c ∷ []) none in
-    let second = none_passes (1 + length a + 1) (number 65535) (number 65535 ∷ []) b (c ∷ []) first.1 in
-    let third = none_passes (1 + length a + 1 + length b + 1) (number 65535) [] c [] second.1 in
-    let is_a : a ≡ codes "read" = (bytes_eq-Decides a (codes "read")).0 first.0 in
-    let is_b = (number_is_decimal b second.0).spelled in
-    let is_c = (number_is_decimal c third.0).spelled in
-    let cylinder : decimal (number_value b) ≡ decimal at.cyl = ap (λ (x : Addr). decimal x.cyl) place in
-    let head : decimal (number_value c) ≡ decimal at.head = ap (λ (x : Addr). decimal x.head) place in
-    cc
-tokens_are (a ∷ b ∷ c ∷ d ∷ more) at none place =
-    let first = none_passes 1 (word (codes "read")) (number 65535 ∷ number 65535 ∷ []) a (b ∷ c ∷ d ∷ more) none in
-    let second = none_passes (1 + length a + 1) (number 65535) (number 65535 ∷ []) b (c ∷ d ∷ more) first.1 in
-    let third = none_passes (1 + length a + 1 + length b + 1) (number 65535) [] c (d ∷ more) second.1 in
-    let left = third.1 in cc
-
--- the line that has the tokens of a read
-line_of_tokens : (line : List ℕ) (at : Addr) → tokens line ≡ read_tokens at → line ≡ read_line at
-line_of_tokens line at e =
-    sym (joined_tokens line) ∙ ap joined e
-    ∙ ap (λ (s : List ℕ). codes "read " ++ s) (sym (append_assoc (decimal at.cyl) (codes " ") (decimal at.head)))
-
--- and the tokens of its line
-tokens_of_line : (at : Addr) → at.cyl < 65536 → at.head < 65536 → tokens (read_line at) ≡ read_tokens at
-tokens_of_line at cylinder_small head_small =
-    let cylinder = (decimal_is_IsNumeral at.cyl (omega arith)).0.1 in
-    let head = (decimal_is_IsNumeral at.head (omega arith)).0.1 in
-    ap (λ (s : List ℕ). codes "read" ∷ tokens s) (append_assoc (decimal at.cyl) (codes " ") (decimal at.head))
-    ∙ ap (λ (ts : List (List ℕ)). codes "read" ∷ ts) (tokens_digits (decimal at.cyl) (decimal at.head) cylinder)
-    ∙ ap (λ (ts : List (List ℕ)). codes "read" ∷ decimal at.cyl ∷ ts) (tokens_digits_alone (decimal at.head) head)
-
-no_comment : (t : Bool) (other : Result What LineFault) (at : Addr) → (if t then Ok Nothing else other) ≡ Ok (One (Read at))
-    → other ≡ Ok (One (Read at))
-no_comment true other at e = cc
-no_comment false other at e = e
-
-spelled_to : (line : List ℕ) (at : Addr) → parsed line ≡ Ok (One (Read at)) → line ≡ read_line at
-spelled_to [] at e = cc
-spelled_to (b ∷ rest) at e =
-    let parts = tokens (b ∷ rest) in
-    let read = no_comment (b == 35) (parsed_tokens parts) at e in
-    let told = none_of (fault_column 1 read_kinds parts) parts at read in
-    line_of_tokens (b ∷ rest) at (tokens_are parts at told.0 told.1)
-
-spelled_from : (line : List ℕ) (at : Addr) → at.cyl < 65536 → at.head < 65536 → line ≡ read_line at → parsed line ≡ Ok (One (Read at))
-spelled_from line at cylinder head e =
-    ap parsed e ∙ read_is_parsed (tokens (read_line at)) at cylinder head (tokens_of_line at cylinder head)
-
--- a line asks for a read of an address exactly where it is its line
-pub spelled : (line : List ℕ) (result : Result What LineFault) → result ≡ parsed line
-    → (at : Addr) → at.cyl < 2 ^ 16 → at.head < 2 ^ 16 → (result ≡ Ok (One (Read at))) ↔ (line ≡ read_line at)
-spelled line result is at cylinder head = (
-  λ (e : result ≡ Ok (One (Read at))). spelled_to line at (sym is ∙ e),
-  λ (e : line ≡ read_line at). is ∙ spelled_from line at (omega (arith, cylinder)) (omega (arith, head)) e,
-)
+-- and one whose tokens say values asks by them
+pub asks_some : (form : Form) (line : List ℕ) (end : ℕ) (values : List Value) → values_behind line end form.kinds ≡ Ok values
+    → AsksFor form line end (Ok (what_of (form.asks values)))
+asks_some form line end values e = sym (ap (λ (r : Result (List Value) ℕ). what_in (asked_by form r)) e)

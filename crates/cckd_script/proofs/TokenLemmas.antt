@@ -4,7 +4,7 @@ use Rattle.std.specs.List.{position_or_len}
 use Rattle.std.specs.Str.Parse.{AllDigits}
 use Rattle.std.proofs.lemmas.Bool.{cases_lt, cases_Bool, lt-ltb, le-ltb}
 use Rattle.std.proofs.lemmas.Bool.Decides.{nat_tests}
-use Rattle.std.proofs.lemmas.List.{drop-drop}
+use Rattle.std.proofs.lemmas.List.{drop-drop, drop_all}
 use Rattle.std.proofs.lemmas.List.Sums.{prefix_len-le-length}
 use Rattle.std.proofs.lemmas.Str.Parse.{digit_from_value}
 use Rattle.std.proofs.Math.Seq.{take-length}
@@ -83,6 +83,29 @@ behind_place line end within = ap behind (drop-cons line end 0 within) ∙ ap (�
 pub some_behind : (line : List ℕ) (end : ℕ) → end < length line
     → rest_tokens line end ≡ take (first_length (drop (end + 1) line)) (drop (end + 1) line) ∷ behind (drop (first_length (drop (end + 1) line)) (drop (end + 1) line))
 some_behind line end within = behind_place line end within ∙ tokens_first (drop (end + 1) line)
+
+-- and behind the line there is none
+pub none_behind : (line : List ℕ) (end : ℕ) → end ≡ length line → rest_tokens line end ≡ []
+none_behind line end last = ap behind (drop_all end line (omega arith))
+
+begun-append : (b : ℕ) (parts more : List (List ℕ)) → 0 < length parts → begun b (parts ++ more) ≡ begun b parts ++ more
+begun-append b [] more some = absurd (omega arith)
+begun-append b (part ∷ parts) more some = refl
+
+some_tokens : (text : List ℕ) → 0 < length (tokens text)
+some_tokens text = omega (arith, ap length (tokens_first text))
+
+-- the tokens on both sides of a blank
+pub tokens_append : (text more : List ℕ) → tokens (text ++ 32 ∷ more) ≡ tokens text ++ tokens more
+tokens_append [] more = refl
+tokens_append (b ∷ text) more =
+    let rest = tokens_append text more in
+    elim (b == 32) as (λ t.
+    (if t then [] ∷ tokens (text ++ 32 ∷ more) else begun b (tokens (text ++ 32 ∷ more)))
+    ≡ (if t then [] ∷ tokens text else begun b (tokens text)) ++ tokens more) [
+      | true ↦ ap (λ (parts : List (List ℕ)). [] ∷ parts) rest
+      | false ↦ ap (begun b) rest ∙ begun-append b (tokens text) (tokens more) (some_tokens text)
+    ]
 
 digit_fails : (b : ℕ) → 48 ≤ b → (b == 32) ≡ false
 digit_fails b range = grind (arith, nat_tests)

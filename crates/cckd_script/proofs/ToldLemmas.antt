@@ -1,261 +1,319 @@
--- What is printed for a call determines what was said to it.
-use Rattle.std.proofs.Common.{◌≤◌, take, ◌≡◌, ℕ, zero, suc, ◌<◌, ◌^◌, List, [], ◌∷◌, ◌++◌, length, get_or, codes, decimal, refl, sym, ◌∙◌, ap, subst, arith, append_assoc}
-use Rattle.std.specs.Str.Parse.{AllDigits}
-use Rattle.std.proofs.lemmas.Fmt.{decimal_is_IsNumeral, decimal_injective}
-use Rattle.std.proofs.lemmas.List.{append_cancel_left, append_cancel_right, length-take-le}
+-- What is printed for a call determines what was said to it: a text is read back.
+use Rattle.std.proofs.Common.{◌≡◌, ◌≤◌, ℕ, zero, suc, ◌+◌, ◌-◌, ◌*◌, ◌<◌, ◌^◌, ◌==◌, Bool, true, false, ◌&&◌, if◌then◌else◌, List, [], ◌∷◌, ◌++◌, length, take, drop, map, flat_map, replicate, get_or, codes, decimal, Result, refl, sym, ◌∙◌, ap, subst, arith, length-append, length-drop}
+use Rattle.std.specs.List.{AllByRecursion}
+use Rattle.std.specs.Str.{bytes_eq}
+use Rattle.std.specs.Result.{result_unwrap_or}
+use Rattle.std.proofs.lemmas.Bool.Decides.{nat_tests}
+use Rattle.std.proofs.lemmas.Fmt.{decimal_is_IsNumeral}
+use Rattle.std.proofs.lemmas.List.{take-append-drop, length-take-le, take_at, append_cancel_right}
 use Rattle.hex.specs.Hex.{encode_lower, lower_digits, IsBytes, decode_of}
-use Rattle.hex.proofs.HexLemmas.{decode_of-encode_lower, decode_of-same, length-encode_with}
+use Rattle.hex.specs.declared.error.FromHexError.{FromHexError}
+use Rattle.hex.proofs.HexLemmas.{decode_of-encode_lower, length-encode_with}
 use Rattle.cckd_base.specs.declared.geometry.Addr.{Addr}
 use Rattle.cckd_base.specs.declared.fault.TrackFault.{TrackFault}
-use Rattle.cckd_base.specs.declared.fault.TrackFault.TheVariants.{TooLong, NoEnd, Compressed, WrongTrack, BadRecord}
+use Rattle.cckd_base.specs.declared.fault.TrackFault.TheVariants as fault
 use Rattle.cckd_base.specs.declared.call.Call.{Call}
-use Rattle.cckd_base.specs.declared.call.Call.TheVariants.{Read, Close}
+use Rattle.cckd_base.specs.declared.turn.Turn.{Turn}
+use Rattle.cckd_base.specs.declared.turn.Turn.TheVariants as turn
 use Rattle.cckd_base.specs.declared.reply.Reply.{Reply}
 use Rattle.cckd_base.specs.declared.reply.Reply.TheVariants as reply
 use Rattle.cckd_base.specs.declared.reply.Refusal.{Refusal}
 use Rattle.cckd_base.specs.declared.reply.Refusal.TheVariants as refusal
-use Rattle.cckd_script.specs.declared.misread.Item.TheVariants.{Asked, Misread}
 use Rattle.cckd_script.specs.declared.misread.Misreading.{Misreading}
 use Rattle.cckd_script.specs.Lines.{tokens}
-use Rattle.cckd_script.specs.Text.{pair_text, hex_text, track_fault_text, refusal_text, reply_text, FitsCall, FaultFits, RefusalFits, ReplyFits, IsAnswer, Entry, answered, misread, EntryFits, item_of, entry_text, answered_length, answered_bytes}
-use Rattle.cckd_script.proofs.TokenLemmas.{tokens_digits}
+use Rattle.cckd_script.specs.Phrase.{number, hex_text}
+use Rattle.cckd_script.specs.Grammar.{number_value}
+use Rattle.cckd_script.specs.Text.{call_address, call_record, turn_phrase, refusal_phrase, reply_phrase, reply_text, FitsCall, CallFits, FaultFits, TurnFits, RefusalFits, ReplyFits, IsAnswer, answered_length, answered_bytes, Entry, answered, misread, EntryFits, entry_text}
+use Rattle.cckd_script.specs.Items.{asked, unread, item_of}
+use Rattle.cckd_script.proofs.TextLemmas.{reply_fits}
+use Rattle.cckd_script.proofs.PlainLemmas.{part_tokens, phrase_tokens, tokens_of_phrase}
 
--- the byte at a place of a text
-abbrev byte_at : ℕ → List ℕ → ℕ
-byte_at k text = get_or text k 0
+-- a reply and the bytes answered
+abbrev Said : Type 0
+Said = Reply × List ℕ
 
-digits_of : (n : ℕ) → n < 2 ^ 64 → AllDigits 10 (decimal n)
-digits_of n small = (decimal_is_IsNumeral n small).0.1
+abbrev said : Reply → List ℕ → Said
+said answer bytes = (answer, bytes)
 
--- two numbers that are spelled in the same way
-same_number : (a b : ℕ) → a < 2 ^ 32 → b < 2 ^ 32 → decimal a ≡ decimal b → a ≡ b
-same_number a b small also e = decimal_injective a b (omega (arith, small)) (omega (arith, also)) e
+-- the number that a token is, and the one that a token is but for its last byte
+abbrev number_at : ℕ → List (List ℕ) → ℕ
+number_at k parts = number_value (get_or parts k [])
 
-first_part : (a b : List ℕ) (rest more : List (List ℕ)) → a ∷ rest ≡ b ∷ more → a ≡ b
-first_part a b rest more e = cc
+abbrev unmarked : List ℕ → List ℕ
+unmarked token = take (length token - 1) token
 
-same_rest : (rest more : List ℕ) → 32 ∷ rest ≡ 32 ∷ more → rest ≡ more
-same_rest rest more e = cc
+abbrev marked_at : ℕ → List (List ℕ) → ℕ
+marked_at k parts = number_value (unmarked (get_or parts k []))
 
--- a number and what follows its blank
-pub record AreSame (a b : ℕ) (rest more : List ℕ) : Type 0 where
-  pub number : a ≡ b
-  pub left : rest ≡ more
+-- the bytes that a token is the text of
+abbrev bytes_read : List ℕ → List ℕ
+bytes_read token = if length token == 1 then [] else result_unwrap_or (decode_of token) []
 
-same_start : (a b : ℕ) (rest more : List ℕ) → a < 2 ^ 32 → b < 2 ^ 32
-    → decimal a ++ 32 ∷ rest ≡ decimal b ++ 32 ∷ more → AreSame a b rest more
-same_start a b rest more small also e =
-    let one = tokens_digits (decimal a) rest (digits_of a (omega (arith, small))) in
-    let two = tokens_digits (decimal b) more (digits_of b (omega (arith, also))) in
-    let spelled = first_part (decimal a) (decimal b) (tokens rest) (tokens more) (sym one ∙ ap tokens e ∙ two) in
-    let number = same_number a b small also spelled in
-    let left : 32 ∷ rest ≡ 32 ∷ more =
-    append_cancel_left (decimal a) (32 ∷ rest) (32 ∷ more) (e ∙ ap (λ (s : List ℕ). s ++ 32 ∷ more) (sym spelled)) in
-    record { number = number; left = same_rest rest more left }
+abbrev bytes_at : ℕ → List (List ℕ) → List ℕ
+bytes_at k parts = bytes_read (get_or parts k [])
 
-same_pair : (a b c d : ℕ) → a < 2 ^ 32 → b < 2 ^ 32 → c < 2 ^ 32 → d < 2 ^ 32 → pair_text a b ≡ pair_text c d
-    → (a ≡ c) × (b ≡ d)
-same_pair a b c d sa sb sc sd e =
-    let start = same_start a c (decimal b) (decimal d) sa sc
-    (sym (append_assoc (decimal a) (32 ∷ []) (decimal b)) ∙ e ∙ append_assoc (decimal c) (32 ∷ []) (decimal d)) in
-    (start.number, same_number b d sb sd start.left)
+-- how a text that begins with some words is read back
+record Row : Type 0 where
+  front : List ℕ
+  reads : List (List ℕ) → Said
 
--- the hexadecimal digits of bytes are more than a dash
-dash_is_no_digits : (b : ℕ) (bytes : List ℕ) → hex_text (b ∷ bytes) ≡ hex_text [] → ⊥
-dash_is_no_digits b bytes e =
+-- a reply without bytes
+abbrev plain_row : List ℕ → (List (List ℕ) → Reply) → Row
+plain_row front reads = record { front = front; reads = λ parts. (reads parts, []) }
+
+-- a reply with one number behind its words
+abbrev refusal_row : List ℕ → (List (List ℕ) → Refusal) → Row
+refusal_row front reads = record { front = front; reads = λ parts. (reply.Refused (reads parts), []) }
+
+-- how each text of a reply is read back
+abbrev rows : List Row
+rows =
+    record { front = codes "track"; reads = λ parts. (reply.Track (number_at 3 parts), bytes_at 4 parts) }
+    ∷ record { front = codes "record"; reads = λ parts. (reply.Record (length (bytes_at 4 parts)) (length (bytes_at 5 parts)), bytes_at 4 parts ++ bytes_at 5 parts) }
+    ∷ plain_row (codes "written") (λ parts. reply.Written (number_at 3 parts))
+    ∷ plain_row (codes "replaced") (λ parts. reply.Replaced (number_at 4 parts))
+    ∷ plain_row (codes "hardened") (λ parts. reply.Hardened)
+    ∷ plain_row (codes "gc copied") (λ parts. reply.Turned (turn.Copied (number_at 3 parts) (number_at 5 parts)))
+    ∷ plain_row (codes "gc moved track") (λ parts. reply.Turned (turn.Moved (number_at 3 parts) (number_at 5 parts) (number_at 7 parts)))
+    ∷ plain_row (codes "gc moved table") (λ parts. reply.Turned (turn.MovedTable (number_at 3 parts) (number_at 5 parts) (number_at 7 parts)))
+    ∷ plain_row (codes "gc gave") (λ parts. reply.Turned (turn.GivenUp (marked_at 4 parts) (marked_at 6 parts) (number_at 8 parts)))
+    ∷ plain_row (codes "gc trimmed") (λ parts. reply.Turned (turn.Trimmed (number_at 3 parts)))
+    ∷ plain_row (codes "gc idle") (λ parts. reply.Turned turn.Idle)
+    ∷ plain_row (codes "added") (λ parts. reply.Added (number_at 1 parts))
+    ∷ plain_row (codes "merged") (λ parts. reply.Merged (number_at 1 parts))
+    ∷ plain_row (codes "dropped") (λ parts. reply.Dropped (number_at 1 parts))
+    ∷ plain_row (codes "compressed") (λ parts. reply.Compressed)
+    ∷ plain_row (codes "layers") (λ parts. reply.Shown (marked_at 1 parts) (map number_value (drop 2 parts) ++ replicate (9 - marked_at 1 parts) 0))
+    ∷ plain_row (codes "checked") (λ parts. reply.Checked (marked_at 1 parts) (number_at 2 parts))
+    ∷ plain_row (codes "closed") (λ parts. reply.Closed)
+    ∷ refusal_row (codes "refused: no such") (λ parts. refusal.NoSuchTrack)
+    ∷ refusal_row (codes "refused: track too") (λ parts. refusal.Track (fault.TooLong (number_at 4 parts) (number_at 6 parts)))
+    ∷ refusal_row (codes "refused: no end") (λ parts. refusal.Track (fault.NoEnd (number_at 4 parts)))
+    ∷ refusal_row (codes "refused: compressed") (λ parts. refusal.Track (fault.Compressed (number_at 2 parts)))
+    ∷ refusal_row (codes "refused: wrong") (λ parts. refusal.Track (fault.WrongTrack (number_at 3 parts) (number_at 4 parts)))
+    ∷ refusal_row (codes "refused: bad") (λ parts. refusal.Track (fault.BadRecord (number_at 4 parts)))
+    ∷ refusal_row (codes "refused: no record") (λ parts. refusal.NoRecord (number_at 3 parts))
+    ∷ refusal_row (codes "refused: length") (λ parts. refusal.LengthDiffers (number_at 4 parts))
+    ∷ refusal_row (codes "refused: full,") (λ parts. refusal.Full (record { need = number_at 3 parts; largest = number_at 5 parts; room = number_at 7 parts }))
+    ∷ refusal_row (codes "refused: too") (λ parts. refusal.TooMany (number_at 5 parts))
+    ∷ refusal_row (codes "refused: only") (λ parts. refusal.OnlyBase)
+    ∷ refusal_row (codes "fault: read") (λ parts. refusal.ReadFault)
+    ∷ refusal_row (codes "fault: write") (λ parts. refusal.WriteFault)
+    ∷ refusal_row (codes "fault: sync") (λ parts. refusal.SyncFault)
+    ∷ refusal_row (codes "broken") (λ parts. refusal.Broken (number_at 2 parts))
+    ∷ refusal_row (codes "no memory") (λ parts. refusal.Memory)
+    ∷ []
+
+-- whether a text's tokens begin with these
+abbrev begins : List (List ℕ) → List (List ℕ) → Bool
+begins [] parts = true
+begins (word ∷ words) [] = false
+begins (word ∷ words) (part ∷ parts) = bytes_eq word part && begins words parts
+
+-- what the first row says whose words begin a text
+abbrev read_by : List Row → List (List ℕ) → Said
+read_by [] parts = (reply.Closed, [])
+read_by (row ∷ others) parts = if begins (tokens row.front) parts then row.reads parts else read_by others parts
+
+-- a text read back
+abbrev read_back : List (List ℕ) → Said
+read_back parts = read_by rows parts
+
+-- a number is read back from its digits
+value : (n : ℕ) → n < 2 ^ 64 → number_value (decimal n) ≡ n
+value n small = (decimal_is_IsNumeral n small).1
+
+front_of : (digits : List ℕ) (mark : ℕ) → unmarked (digits ++ mark ∷ []) ≡ digits
+front_of digits mark =
+    let len : length (digits ++ mark ∷ []) - 1 ≡ length digits = omega (arith, length-append digits (mark ∷ [])) in
+    ap (λ (n : ℕ). take n (digits ++ mark ∷ [])) len ∙ take_at digits (mark ∷ []) (length digits) refl
+
+-- and one with a mark behind it
+value_marked : (n mark : ℕ) → n < 2 ^ 64 → number_value (unmarked (decimal n ++ mark ∷ [])) ≡ n
+value_marked n mark small = ap number_value (front_of (decimal n) mark) ∙ value n small
+
+twice_is_not_one : (n : ℕ) → (2 * suc n == 1) ≡ false
+twice_is_not_one n = grind (arith, nat_tests)
+
+-- bytes are read back from their digits
+bytes_back : (bytes : List ℕ) → IsBytes bytes → bytes_read (hex_text bytes) ≡ bytes
+bytes_back [] h = refl
+bytes_back (b ∷ bytes) h =
     let len = length-encode_with lower_digits (b ∷ bytes) in
-    let same : length (encode_lower (b ∷ bytes)) ≡ 1 = ap length e in
-    omega (arith, len, same)
+    let decoded = decode_of-encode_lower (b ∷ bytes) h in
+    ap (λ (n : ℕ). if n == 1 then [] else result_unwrap_or (decode_of (encode_lower (b ∷ bytes))) []) len
+    ∙ ap (λ (t : Bool). if t then [] else result_unwrap_or (decode_of (encode_lower (b ∷ bytes))) []) (twice_is_not_one (length bytes))
+    ∙ ap (λ (r : Result (List ℕ) FromHexError). result_unwrap_or r []) decoded
 
-same_bytes : (bytes more : List ℕ) → IsBytes bytes → IsBytes more → hex_text bytes ≡ hex_text more → bytes ≡ more
-same_bytes [] [] h k e = refl
-same_bytes [] (c ∷ more) h k e = absurd (dash_is_no_digits c more (sym e))
-same_bytes (b ∷ bytes) [] h k e = absurd (dash_is_no_digits b bytes e)
-same_bytes (b ∷ bytes) (c ∷ more) h k e =
-    decode_of-same (encode_lower (b ∷ bytes)) (b ∷ bytes) (c ∷ more) (decode_of-encode_lower (b ∷ bytes) h)
-    (ap decode_of e ∙ decode_of-encode_lower (c ∷ more) k)
+numbers_back : (counts : List ℕ) → AllByRecursion (λ n. n < 2 ^ 32) counts → map number_value (flat_map part_tokens (map number counts)) ≡ counts
+numbers_back [] small = refl
+numbers_back (n ∷ counts) small =
+    ap (λ (m : ℕ). m ∷ map number_value (flat_map part_tokens (map number counts))) (value n (omega (arith, small.0)))
+    ∙ ap (λ (ms : List ℕ). n ∷ ms) (numbers_back counts small.1)
 
-too_long_text : (len max : ℕ) → track_fault_text (TooLong len max) ≡ codes "track too long " ++ (decimal len ++ 32 ∷ (codes "over " ++ decimal max))
-too_long_text len max =
-    append_assoc (codes "track too long " ++ decimal len) (codes " over ") (decimal max)
-    ∙ append_assoc (codes "track too long ") (decimal len) (codes " over " ++ decimal max)
+-- a reply of two numbers, and of three
+two : (f : ℕ → ℕ → Said) (a b c d : ℕ) → a ≡ c → b ≡ d → f a b ≡ f c d
+two f a b c d first second = ap (λ (x : ℕ). f x b) first ∙ ap (f c) second
 
--- the text of a track fault determines it
-same_fault : (fault other : TrackFault) → FaultFits fault → FaultFits other → track_fault_text fault ≡ track_fault_text other
-    → fault ≡ other
-same_fault (TooLong len max) (TooLong len' max') h k e =
-    let start = same_start len len' (codes "over " ++ decimal max) (codes "over " ++ decimal max') h.0 k.0
-    (append_cancel_left (codes "track too long ") (decimal len ++ 32 ∷ (codes "over " ++ decimal max))
-    (decimal len' ++ 32 ∷ (codes "over " ++ decimal max')) (sym (too_long_text len max) ∙ e ∙ too_long_text len' max')) in
-    let most = same_number max max' h.1 k.1 (append_cancel_left (codes "over ") (decimal max) (decimal max') start.left) in
-    let least = start.number in
-    ap (λ (x : ℕ). TooLong x max) least ∙ ap (TooLong len') most
-same_fault (TooLong len max) (NoEnd at') h k e = absurd (omega (arith, ap (byte_at 0) e))
-same_fault (TooLong len max) (Compressed byte') h k e = absurd (omega (arith, ap (byte_at 0) e))
-same_fault (TooLong len max) (WrongTrack cyl' head') h k e = absurd (omega (arith, ap (byte_at 0) e))
-same_fault (TooLong len max) (BadRecord at') h k e = absurd (omega (arith, ap (byte_at 0) e))
-same_fault (NoEnd at) (TooLong len' max') h k e = absurd (omega (arith, ap (byte_at 0) e))
-same_fault (NoEnd at) (NoEnd at') h k e =
-    ap NoEnd (same_number at at' (omega (arith, h)) (omega (arith, k)) (append_cancel_left (codes "no end at ") (decimal at) (decimal at') e))
-same_fault (NoEnd at) (Compressed byte') h k e = absurd (omega (arith, ap (byte_at 0) e))
-same_fault (NoEnd at) (WrongTrack cyl' head') h k e = absurd (omega (arith, ap (byte_at 0) e))
-same_fault (NoEnd at) (BadRecord at') h k e = absurd (omega (arith, ap (byte_at 0) e))
-same_fault (Compressed byte) (TooLong len' max') h k e = absurd (omega (arith, ap (byte_at 0) e))
-same_fault (Compressed byte) (NoEnd at') h k e = absurd (omega (arith, ap (byte_at 0) e))
-same_fault (Compressed byte) (Compressed byte') h k e =
-    ap Compressed (same_number byte byte' (omega (arith, h)) (omega (arith, k)) (append_cancel_left (codes "compressed ") (decimal byte) (decimal byte') e))
-same_fault (Compressed byte) (WrongTrack cyl' head') h k e = absurd (omega (arith, ap (byte_at 0) e))
-same_fault (Compressed byte) (BadRecord at') h k e = absurd (omega (arith, ap (byte_at 0) e))
-same_fault (WrongTrack cyl head) (TooLong len' max') h k e = absurd (omega (arith, ap (byte_at 0) e))
-same_fault (WrongTrack cyl head) (NoEnd at') h k e = absurd (omega (arith, ap (byte_at 0) e))
-same_fault (WrongTrack cyl head) (Compressed byte') h k e = absurd (omega (arith, ap (byte_at 0) e))
-same_fault (WrongTrack cyl head) (WrongTrack cyl' head') h k e =
-    let same = same_pair cyl head cyl' head' (omega (arith, h)) (omega (arith, h)) (omega (arith, k)) (omega (arith, k))
-    (append_cancel_left (codes "wrong track ") (pair_text cyl head) (pair_text cyl' head') e) in
-    ap (λ (x : ℕ). WrongTrack x head) same.0 ∙ ap (WrongTrack cyl') same.1
-same_fault (WrongTrack cyl head) (BadRecord at') h k e = absurd (omega (arith, ap (byte_at 0) e))
-same_fault (BadRecord at) (TooLong len' max') h k e = absurd (omega (arith, ap (byte_at 0) e))
-same_fault (BadRecord at) (NoEnd at') h k e = absurd (omega (arith, ap (byte_at 0) e))
-same_fault (BadRecord at) (Compressed byte') h k e = absurd (omega (arith, ap (byte_at 0) e))
-same_fault (BadRecord at) (WrongTrack cyl' head') h k e = absurd (omega (arith, ap (byte_at 0) e))
-same_fault (BadRecord at) (BadRecord at') h k e =
-    ap BadRecord (same_number at at' (omega (arith, h)) (omega (arith, k)) (append_cancel_left (codes "bad record at ") (decimal at) (decimal at') e))
+three : (f : ℕ → ℕ → ℕ → Said) (a b c d e g : ℕ) → a ≡ d → b ≡ e → c ≡ g → f a b c ≡ f d e g
+three f a b c d e g first second third = ap (λ (x : ℕ). f x b c) first ∙ ap (λ (x : ℕ). f d x c) second ∙ ap (f d e) third
 
--- no track fault is told as "no such track"
-not_no_such : (fault : TrackFault) → refusal_text refusal.NoSuchTrack ≡ refusal_text (refusal.Track fault) → ⊥
-not_no_such (TooLong len max) e = omega (arith, ap (byte_at 9) e)
-not_no_such (NoEnd at) e = omega (arith, ap (byte_at 12) e)
-not_no_such (Compressed byte) e = omega (arith, ap (byte_at 9) e)
-not_no_such (WrongTrack cyl head) e = omega (arith, ap (byte_at 9) e)
-not_no_such (BadRecord at) e = omega (arith, ap (byte_at 9) e)
+-- a number of 32 bits is read back
+value_32 : (n : ℕ) → n < 2 ^ 32 → number_value (decimal n) ≡ n
+value_32 n small = value n (omega (arith, small))
 
--- the text of a refusal determines it
-same_refusal : (why other : Refusal) → RefusalFits why → RefusalFits other → refusal_text why ≡ refusal_text other → why ≡ other
-same_refusal refusal.NoSuchTrack refusal.NoSuchTrack h k e = refl
-same_refusal refusal.NoSuchTrack (refusal.Track fault) h k e = absurd (not_no_such fault e)
-same_refusal refusal.NoSuchTrack refusal.ReadFault h k e = absurd (omega (arith, ap (byte_at 0) e))
-same_refusal (refusal.Track fault) refusal.NoSuchTrack h k e = absurd (not_no_such fault (sym e))
-same_refusal (refusal.Track fault) (refusal.Track other) h k e =
-    ap refusal.Track (same_fault fault other h k (append_cancel_left (codes "refused: ") (track_fault_text fault) (track_fault_text other) e))
-same_refusal (refusal.Track fault) refusal.ReadFault h k e = absurd (omega (arith, ap (byte_at 0) e))
-same_refusal refusal.ReadFault refusal.NoSuchTrack h k e = absurd (omega (arith, ap (byte_at 0) e))
-same_refusal refusal.ReadFault (refusal.Track fault) h k e = absurd (omega (arith, ap (byte_at 0) e))
-same_refusal refusal.ReadFault refusal.ReadFault h k e = refl
+marked_32 : (n mark : ℕ) → n < 2 ^ 32 → number_value (unmarked (decimal n ++ mark ∷ [])) ≡ n
+marked_32 n mark small = value_marked n mark (omega (arith, small))
 
-track_is_no_fault : (why : Refusal) (at : Addr) (len : ℕ) (bytes : List ℕ)
-    → reply_text (Read at) (reply.Track len) bytes ≡ refusal_text why → ⊥
-track_is_no_fault refusal.NoSuchTrack at len bytes e = omega (arith, ap (byte_at 0) e)
-track_is_no_fault (refusal.Track fault) at len bytes e = omega (arith, ap (byte_at 0) e)
-track_is_no_fault refusal.ReadFault at len bytes e = omega (arith, ap (byte_at 0) e)
+fault_back : (f : TrackFault) → FaultFits f → read_back (phrase_tokens (refusal_phrase (refusal.Track f))) ≡ (reply.Refused (refusal.Track f), [])
+fault_back (fault.TooLong len max) h =
+    two (λ a b. (reply.Refused (refusal.Track (fault.TooLong a b)), [])) _ _ len max (value_32 len h.0) (value_32 max h.1)
+fault_back (fault.NoEnd at) h = ap (λ (a : ℕ). (reply.Refused (refusal.Track (fault.NoEnd a)), [])) (value_32 at h)
+fault_back (fault.Compressed byte) h =
+    ap (λ (a : ℕ). (reply.Refused (refusal.Track (fault.Compressed a)), [])) (value_32 byte (omega (arith, h)))
+fault_back (fault.WrongTrack cyl head) h =
+    two (λ a b. (reply.Refused (refusal.Track (fault.WrongTrack a b)), [])) _ _ cyl head (value_32 cyl (omega (arith, h.0)))
+    (value_32 head (omega (arith, h.1)))
+fault_back (fault.BadRecord at) h = ap (λ (a : ℕ). (reply.Refused (refusal.Track (fault.BadRecord a)), [])) (value_32 at h)
 
-fault_is_no_end : (why : Refusal) → refusal_text why ≡ codes "closed" → ⊥
-fault_is_no_end refusal.NoSuchTrack e = omega (arith, ap (byte_at 0) e)
-fault_is_no_end (refusal.Track fault) e = omega (arith, ap (byte_at 0) e)
-fault_is_no_end refusal.ReadFault e = omega (arith, ap (byte_at 0) e)
+refusal_back : (why : Refusal) → RefusalFits why → read_back (phrase_tokens (refusal_phrase why)) ≡ (reply.Refused why, [])
+refusal_back refusal.NoSuchTrack h = refl
+refusal_back (refusal.Track f) h = fault_back f h
+refusal_back (refusal.NoRecord num) h = ap (λ (a : ℕ). (reply.Refused (refusal.NoRecord a), [])) (value_32 num (omega (arith, h)))
+refusal_back (refusal.LengthDiffers has) h = ap (λ (a : ℕ). (reply.Refused (refusal.LengthDiffers a), [])) (value_32 has h)
+refusal_back (refusal.Full full) h =
+    three (λ a b c. (reply.Refused (refusal.Full (record { need = a; largest = b; room = c })), [])) _ _ _ full.need full.largest full.room
+    (value_32 full.need h.0) (value_32 full.largest h.1) (value_32 full.room h.2)
+refusal_back (refusal.TooMany have) h = ap (λ (a : ℕ). (reply.Refused (refusal.TooMany a), [])) (value_32 have (omega (arith, h)))
+refusal_back refusal.OnlyBase h = refl
+refusal_back refusal.ReadFault h = refl
+refusal_back refusal.WriteFault h = refl
+refusal_back refusal.SyncFault h = refl
+refusal_back (refusal.Broken at) h = ap (λ (a : ℕ). (reply.Refused (refusal.Broken a), [])) (value at h)
+refusal_back refusal.Memory h = refl
 
--- the text of a track, in two parts
-track_parts : (at : Addr) (len : ℕ) (bytes : List ℕ)
-    → reply_text (Read at) (reply.Track len) bytes ≡ (codes "track " ++ pair_text at.cyl at.head ++ codes " ") ++ (decimal len ++ 32 ∷ hex_text bytes)
-track_parts at len bytes =
-    append_assoc (codes "track " ++ pair_text at.cyl at.head ++ codes " " ++ decimal len) (codes " ") (hex_text bytes)
-    ∙ append_assoc (codes "track " ++ pair_text at.cyl at.head ++ codes " ") (decimal len) (32 ∷ hex_text bytes)
+turn_back : (t : Turn) → TurnFits t → read_back (phrase_tokens (turn_phrase t)) ≡ (reply.Turned t, [])
+turn_back (turn.Copied track to) h =
+    two (λ a b. (reply.Turned (turn.Copied a b), [])) _ _ track to (value_32 track h.0) (value_32 to h.1)
+turn_back (turn.Moved track from to) h =
+    three (λ a b c. (reply.Turned (turn.Moved a b c), [])) _ _ _ track from to (value_32 track h.0) (value_32 from h.1) (value_32 to h.2)
+turn_back (turn.MovedTable group from to) h =
+    three (λ a b c. (reply.Turned (turn.MovedTable a b c), [])) _ _ _ group from to (value_32 group h.0) (value_32 from h.1) (value_32 to h.2)
+turn_back (turn.GivenUp track picked now) h =
+    three (λ a b c. (reply.Turned (turn.GivenUp a b c), [])) _ _ _ track picked now (marked_32 track 58 h.0) (marked_32 picked 44 h.1)
+    (value_32 now h.2)
+turn_back (turn.Trimmed size) h = ap (λ (a : ℕ). (reply.Turned (turn.Trimmed a), [])) (value_32 size h)
+turn_back turn.Idle h = refl
 
--- the length and the bytes that a text tells
-same_track : (at : Addr) (len other : ℕ) (bytes more : List ℕ) → len < 2 ^ 32 → other < 2 ^ 32
-    → reply_text (Read at) (reply.Track len) bytes ≡ reply_text (Read at) (reply.Track other) more
-    → AreSame len other (hex_text bytes) (hex_text more)
-same_track at len other bytes more small also e =
-    same_start len other (hex_text bytes) (hex_text more) small also
-    (append_cancel_left (codes "track " ++ pair_text at.cyl at.head ++ codes " ") (decimal len ++ 32 ∷ hex_text bytes)
-    (decimal other ++ 32 ∷ hex_text more) (sym (track_parts at len bytes) ∙ e ∙ track_parts at other more))
+no_bytes : (bytes : List ℕ) → length bytes ≡ 0 → [] ≡ bytes
+no_bytes [] h = refl
+no_bytes (b ∷ bytes) h = absurd (omega (arith, h))
 
-no_bytes : (bytes more : List ℕ) → length bytes ≡ 0 → length more ≡ 0 → bytes ≡ more
-no_bytes [] [] h k = refl
-no_bytes [] (c ∷ more) h k = absurd (omega arith)
-no_bytes (b ∷ bytes) more h k = absurd (omega arith)
+-- a reply that answers no bytes
+bare : (back : Said) (answer : Reply) (bytes : List ℕ) → back ≡ (answer, []) → length bytes ≡ 0 → back ≡ (answer, bytes)
+bare back answer bytes e len = e ∙ ap (λ (bs : List ℕ). (answer, bs)) (no_bytes bytes len)
 
--- the text of a reply to a call determines the reply
-pub told_reply : (call : Call) (answer other : Reply) (bytes more : List ℕ) → FitsCall call answer → FitsCall call other
-    → ReplyFits answer → ReplyFits other → reply_text call answer bytes ≡ reply_text call other more → answer ≡ other
-told_reply (Read at) (reply.Track len) (reply.Track other) bytes more f g h k e =
-    ap reply.Track (same_track at len other bytes more h k e).number
-told_reply (Read at) (reply.Track len) reply.Closed bytes more f g h k e = absurd g
-told_reply (Read at) (reply.Track len) (reply.Refused why) bytes more f g h k e = absurd (track_is_no_fault why at len bytes e)
-told_reply (Read at) reply.Closed other bytes more f g h k e = absurd f
-told_reply (Read at) (reply.Refused why) (reply.Track len) bytes more f g h k e = absurd (track_is_no_fault why at len more (sym e))
-told_reply (Read at) (reply.Refused why) reply.Closed bytes more f g h k e = absurd g
-told_reply (Read at) (reply.Refused why) (reply.Refused other) bytes more f g h k e = ap reply.Refused (same_refusal why other h k e)
-told_reply Close (reply.Track len) other bytes more f g h k e = absurd f
-told_reply Close reply.Closed (reply.Track len) bytes more f g h k e = absurd g
-told_reply Close reply.Closed reply.Closed bytes more f g h k e = refl
-told_reply Close reply.Closed (reply.Refused why) bytes more f g h k e = absurd (fault_is_no_end why (sym e))
-told_reply Close (reply.Refused why) (reply.Track len) bytes more f g h k e = absurd g
-told_reply Close (reply.Refused why) reply.Closed bytes more f g h k e = absurd (fault_is_no_end why e)
-told_reply Close (reply.Refused why) (reply.Refused other) bytes more f g h k e = ap reply.Refused (same_refusal why other h k e)
+byte_of_front : (n : ℕ) (xs : List ℕ) → IsBytes xs → IsBytes (take n xs)
+byte_of_front zero xs h i = omega arith
+byte_of_front (suc n) [] h i = omega arith
+byte_of_front (suc n) (x ∷ xs) h zero = h 0
+byte_of_front (suc n) (x ∷ xs) h (suc i) = byte_of_front n xs (λ k. h (suc k)) i
 
--- where both answer the bytes that their reply says, it determines the bytes too
-told_bytes : (call : Call) (answer other : Reply) (bytes more : List ℕ) → IsAnswer call answer bytes → IsAnswer call other more
-    → reply_text call answer bytes ≡ reply_text call other more → bytes ≡ more
-told_bytes (Read at) (reply.Track len) (reply.Track other) bytes more f g e =
-    same_bytes bytes more f.values g.values (same_track at len other bytes more f.numbers g.numbers e).left
-told_bytes (Read at) (reply.Track len) reply.Closed bytes more f g e = absurd g.fits
-told_bytes (Read at) (reply.Track len) (reply.Refused why) bytes more f g e = absurd (track_is_no_fault why at len bytes e)
-told_bytes (Read at) reply.Closed other bytes more f g e = absurd f.fits
-told_bytes (Read at) (reply.Refused why) (reply.Track len) bytes more f g e = absurd (track_is_no_fault why at len more (sym e))
-told_bytes (Read at) (reply.Refused why) reply.Closed bytes more f g e = absurd g.fits
-told_bytes (Read at) (reply.Refused why) (reply.Refused other) bytes more f g e = no_bytes bytes more f.len g.len
-told_bytes Close (reply.Track len) other bytes more f g e = absurd f.fits
-told_bytes Close reply.Closed (reply.Track len) bytes more f g e = absurd g.fits
-told_bytes Close reply.Closed reply.Closed bytes more f g e = no_bytes bytes more f.len g.len
-told_bytes Close reply.Closed (reply.Refused why) bytes more f g e = no_bytes bytes more f.len g.len
-told_bytes Close (reply.Refused why) (reply.Track len) bytes more f g e = absurd g.fits
-told_bytes Close (reply.Refused why) reply.Closed bytes more f g e = no_bytes bytes more f.len g.len
-told_bytes Close (reply.Refused why) (reply.Refused other) bytes more f g e = no_bytes bytes more f.len g.len
+byte_behind : (n : ℕ) (xs : List ℕ) → IsBytes xs → IsBytes (drop n xs)
+byte_behind zero xs h = h
+byte_behind (suc n) [] h = h
+byte_behind (suc n) (x ∷ xs) h = byte_behind n xs (λ k. h (suc k))
+
+-- a record is read back from its key and its data
+record_back : (key_len body_len : ℕ) (key body bytes : List ℕ) → key ≡ take key_len bytes → body ≡ drop key_len bytes
+    → length bytes ≡ key_len + body_len → said (reply.Record (length key) (length body)) (key ++ body) ≡ said (reply.Record key_len body_len) bytes
+record_back key_len body_len key body bytes first second len =
+    let k : length key ≡ key_len = ap length first ∙ length-take-le key_len bytes (omega (arith, len)) in
+    let b : length body ≡ body_len = omega (arith, ap length second ∙ length-drop key_len bytes, len) in
+    let all : key ++ body ≡ bytes =
+    ap (λ (s : List ℕ). s ++ body) first ∙ ap (λ (s : List ℕ). take key_len bytes ++ s) second ∙ take-append-drop key_len bytes in
+    two (λ x y. (reply.Record x y, key ++ body)) (length key) (length body) key_len body_len k b
+    ∙ ap (λ (s : List ℕ). (reply.Record key_len body_len, s)) all
+
+answer_back : (call : Call) (input : ℕ) (at : Addr) (num : ℕ) (answer : Reply) (bytes : List ℕ) → IsAnswer call input answer bytes
+    → read_back (phrase_tokens (reply_phrase at num answer bytes)) ≡ (answer, bytes)
+answer_back call input at num (reply.Track len) bytes f =
+    ap (λ (n : ℕ). (reply.Track n, bytes_read (hex_text bytes))) (value_32 len f.numbers)
+    ∙ ap (λ (bs : List ℕ). (reply.Track len, bs)) (bytes_back bytes f.values)
+answer_back call input at num (reply.Written len) bytes f =
+    bare _ (reply.Written len) bytes (ap (λ (n : ℕ). (reply.Written n, [])) (value_32 len f.numbers)) f.len
+answer_back call input at num (reply.Record key_len body_len) bytes f =
+    record_back key_len body_len _ _ bytes (bytes_back (take key_len bytes) (byte_of_front key_len bytes f.values))
+    (bytes_back (drop key_len bytes) (byte_behind key_len bytes f.values)) f.len
+answer_back call input at num (reply.Replaced len) bytes f =
+    bare _ (reply.Replaced len) bytes (ap (λ (n : ℕ). (reply.Replaced n, [])) (value_32 len f.numbers)) f.len
+answer_back call input at num reply.Hardened bytes f = bare _ reply.Hardened bytes refl f.len
+answer_back call input at num (reply.Turned t) bytes f = bare _ (reply.Turned t) bytes (turn_back t f.numbers) f.len
+answer_back call input at num (reply.Added slot) bytes f =
+    bare _ (reply.Added slot) bytes (ap (λ (n : ℕ). (reply.Added n, [])) (value_32 slot (omega (arith, f.numbers)))) f.len
+answer_back call input at num (reply.Merged slot) bytes f =
+    bare _ (reply.Merged slot) bytes (ap (λ (n : ℕ). (reply.Merged n, [])) (value_32 slot (omega (arith, f.numbers)))) f.len
+answer_back call input at num (reply.Dropped slot) bytes f =
+    bare _ (reply.Dropped slot) bytes (ap (λ (n : ℕ). (reply.Dropped n, [])) (value_32 slot (omega (arith, f.numbers)))) f.len
+answer_back call input at num reply.Compressed bytes f = bare _ reply.Compressed bytes refl f.len
+answer_back call input at num (reply.Shown layers counts) bytes f =
+    let shown = take layers counts in
+    let n = marked_32 layers 58 (omega (arith, f.numbers.0)) in
+    bare _ (reply.Shown layers counts) bytes (
+    ap (λ (m : ℕ). (reply.Shown m (map number_value (flat_map part_tokens (map number shown)) ++ replicate (9 - m) 0), [])) n
+    ∙ ap (λ (cs : List ℕ). (reply.Shown layers (cs ++ replicate (9 - layers) 0), [])) (numbers_back shown f.numbers.1)
+    ∙ ap (λ (zeros : List ℕ). (reply.Shown layers (shown ++ zeros), [])) (sym f.fits.2)
+    ∙ ap (λ (cs : List ℕ). (reply.Shown layers cs, [])) (take-append-drop layers counts)
+    ) f.len
+answer_back call input at num (reply.Checked level bad) bytes f =
+    bare _ (reply.Checked level bad) bytes (
+    two (λ a b. (reply.Checked a b, [])) _ _ level bad (marked_32 level 58 (omega (arith, f.numbers.0))) (value_32 bad f.numbers.1)
+    ) f.len
+answer_back call input at num reply.Closed bytes f = bare _ reply.Closed bytes refl f.len
+answer_back call input at num (reply.Refused why) bytes f = bare _ (reply.Refused why) bytes (refusal_back why f.numbers) f.len
 
 -- the text of a reply to a call determines the reply and the bytes that were answered
-pub told : (call : Call) (answer other : Reply) (bytes more : List ℕ) → IsAnswer call answer bytes → IsAnswer call other more
-    → reply_text call answer bytes ≡ reply_text call other more → (answer ≡ other) × (bytes ≡ more)
-told call answer other bytes more f g e =
-    (told_reply call answer other bytes more f.fits g.fits f.numbers g.numbers e, told_bytes call answer other bytes more f g e)
+pub told : (call : Call) (input : ℕ) (answer other : Reply) (bytes more : List ℕ) → CallFits call → IsAnswer call input answer bytes
+    → IsAnswer call input other more → reply_text call answer bytes ≡ reply_text call other more → (answer ≡ other) × (bytes ≡ more)
+told call input answer other bytes more numbers f g e =
+    let one = tokens_of_phrase (reply_phrase (call_address call) (call_record call) answer bytes) (reply_fits call answer bytes numbers f.numbers) in
+    let two = tokens_of_phrase (reply_phrase (call_address call) (call_record call) other more) (reply_fits call other more numbers g.numbers) in
+    let same : said answer bytes ≡ said other more =
+    sym (answer_back call input (call_address call) (call_record call) answer bytes f) ∙ ap read_back (sym one ∙ ap tokens e ∙ two) ∙ answer_back call input (call_address call) (call_record call) other more g in
+    (ap (λ (s : Said). s.0) same, ap (λ (s : Said). s.1) same)
 
-same_misreading : (why other : Misreading) → Misread why ≡ Misread other → why ≡ other
-same_misreading why other e = cc
+-- a reply with the front of a buffer
+pub is_answer : (call : Call) (input : ℕ) (answer : Reply) (buffer : List ℕ) → FitsCall call input answer → ReplyFits answer
+    → answered_length answer ≤ length buffer → IsBytes buffer → IsAnswer call input answer (answered_bytes answer buffer)
+is_answer call input answer buffer fits numbers within values = record {
+  fits = fits;
+  numbers = numbers;
+  values = byte_of_front (answered_length answer) buffer values;
+  len = length-take-le (answered_length answer) buffer within;
+}
 
-same_call : (a b : Call) → Asked a ≡ Asked b → a ≡ b
-same_call a b e = cc
+same_asked : (call other : Call) (given also : List ℕ) → asked call given ≡ asked other also → (call ≡ other) × (given ≡ also)
+same_asked call other given also e = (cc, cc)
 
-same_line : (a b : List ℕ) → a ++ 10 ∷ [] ≡ b ++ 10 ∷ [] → a ≡ b
-same_line a b e = append_cancel_right a b (10 ∷ []) e
+same_unread : (why other : Misreading) → unread why ≡ unread other → why ≡ other
+same_unread why other e = cc
 
 -- text and item determine what was said
 pub told_entry : (entry other : Entry) → EntryFits entry → EntryFits other → item_of entry ≡ item_of other
     → entry_text entry ≡ entry_text other → entry ≡ other
-told_entry (answered call answer bytes) (answered other_call other more) f g asked e =
-    let call_is = same_call call other_call asked in
-    let fits : IsAnswer call other more = subst (λ (c : Call). IsAnswer c other more) (sym call_is) g in
-    let text : reply_text call answer bytes ≡ reply_text call other more =
-    same_line (reply_text call answer bytes) (reply_text other_call other more) e
-    ∙ ap (λ (c : Call). reply_text c other more) (sym call_is) in
-    let same = told call answer other bytes more f fits text in
-    ap (λ (c : Call). answered c answer bytes) call_is
-    ∙ ap (λ (r : Reply). answered other_call r bytes) same.0
-    ∙ ap (answered other_call other) same.1
-told_entry (answered call answer bytes) (misread why) f g asked e = cc asked
-told_entry (misread why) (answered call answer bytes) f g asked e = cc asked
-told_entry (misread why) (misread other) f g asked e = ap misread (same_misreading why other asked)
-
-byte_of_front : (n : ℕ) (buffer : List ℕ) → IsBytes buffer → IsBytes (take n buffer)
-byte_of_front zero buffer h i = omega arith
-byte_of_front (suc n) [] h i = omega arith
-byte_of_front (suc n) (b ∷ buffer) h zero = h 0
-byte_of_front (suc n) (b ∷ buffer) h (suc i) = byte_of_front n buffer (λ k. h (suc k)) i
-
--- a reply with the front of a buffer
-pub is_answer : (call : Call) (answer : Reply) (buffer : List ℕ) → FitsCall call answer → ReplyFits answer
-    → answered_length answer ≤ length buffer → IsBytes buffer → IsAnswer call answer (answered_bytes answer buffer)
-is_answer call answer buffer fits numbers within values = record {
-  fits = fits;
-  numbers = numbers;
-  values = λ i. byte_of_front (answered_length answer) buffer values i;
-  len = length-take-le (answered_length answer) buffer within;
-}
+told_entry (answered call given answer bytes) (answered another also reply more) f g same e =
+    let parts = same_asked call another given also same in
+    let fits : IsAnswer call (length given) reply more =
+    subst (λ (c : Call). IsAnswer c (length given) reply more) (sym parts.0)
+    (subst (λ (bs : List ℕ). IsAnswer another (length bs) reply more) (sym parts.1) g.1) in
+    let text : reply_text call answer bytes ≡ reply_text call reply more =
+    append_cancel_right (reply_text call answer bytes) (reply_text another reply more) (10 ∷ []) e
+    ∙ ap (λ (c : Call). reply_text c reply more) (sym parts.0) in
+    let what = told call (length given) answer reply bytes more f.0 f.1 fits text in
+    ap (λ (c : Call). answered c given answer bytes) parts.0
+    ∙ ap (λ (bs : List ℕ). answered another bs answer bytes) parts.1
+    ∙ ap (λ (r : Reply). answered another also r bytes) what.0
+    ∙ ap (answered another also reply) what.1
+told_entry (answered call given answer bytes) (misread why) f g same e = cc same
+told_entry (misread why) (answered call given answer bytes) f g same e = cc same
+told_entry (misread why) (misread other) f g same e = ap misread (same_unread why other same)

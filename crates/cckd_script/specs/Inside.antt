@@ -1,9 +1,11 @@
 -- What the parts of the reading of a line say of their piece of it.
-use Rattle.std.specs.Prelude.{◌≡◌, ℕ, ◌+◌, ◌<◌, ◌≤◌, ◌==◌, Bool, List, [], ◌∷◌, length, drop, decimal, Some}
-use Rattle.cckd_base.specs.declared.geometry.Addr.{Addr}
+use Rattle.std.specs.Prelude.{◌≡◌, ℕ, ◌+◌, ◌≤◌, ◌==◌, Bool, List, [], ◌∷◌, length, drop, Some, Result, Err}
 use Rattle.cckd_script.specs.declared.parse.Number.{Number}
+use Rattle.cckd_script.specs.declared.parse.What.{What}
+use Rattle.cckd_script.specs.declared.parse.LineFault.{LineFault}
 use Rattle.cckd_script.specs.Lines.{tokens}
-use Rattle.cckd_script.specs.Parse.{Kind, number, fault_column}
+use Rattle.cckd_script.specs.Grammar.{Kind, number, Value, amount, value_before, values_of}
+use Rattle.cckd_script.specs.Parse.{Form, asked_by, what_in}
 
 -- whether a byte is a blank
 abbrev pub is_blank : ℕ → Bool
@@ -18,29 +20,26 @@ behind (blank ∷ rest) = tokens rest
 abbrev pub rest_tokens : List ℕ → ℕ → List (List ℕ)
 rest_tokens line end = behind (drop end line)
 
--- the column where a token behind this place begins
-abbrev pub next_column : ℕ → ℕ
-next_column end = end + 2
+-- what the tokens behind a place say, or the column of the first that is wrong
+abbrev pub values_behind : List ℕ → ℕ → List Kind → Result (List Value) ℕ
+values_behind line end kinds = values_of (end + 2) kinds (rest_tokens line end)
 
--- a number is the next token behind a place, and ends at another
-pub record IsNumberBehind (line : List ℕ) (end : ℕ) (n : Number) : Type 0 where
-  pub small : n.value < 65536
-  pub cut : rest_tokens line end ≡ decimal n.value ∷ rest_tokens line n.end
-  pub ends : n.end ≡ end + 1 + length (decimal n.value)
-  pub within : n.end ≤ length line
+-- a token of a kind is the next behind a place; it says this value and ends at another place
+pub record IsBehind (line : List ℕ) (end : ℕ) (kind : Kind) (value : Value) (after : ℕ) : Type 0 where
+  pub passes : (kinds : List Kind)
+      → values_behind line end (kind ∷ kinds) ≡ value_before (end + 2) (Some value) (values_behind line after kinds)
+  pub within : after ≤ length line
 
--- no number is the next token, and this is the column where that is seen
-abbrev pub IsNoNumber : List ℕ → ℕ → ℕ → Type 0
-IsNoNumber line end column =
-    (kinds : List Kind) → fault_column (next_column end) (number 65535 ∷ kinds) (rest_tokens line end) ≡ Some column
+-- a number in a range is the next token behind a place
+pub record IsNumberBehind (line : List ℕ) (end least most : ℕ) (n : Number) : Type 0 where
+  pub read : IsBehind line end (number least most) (amount n.value) n.end
+  pub least_is : least ≤ n.value
+  pub most_is : n.value ≤ most
 
--- two numbers are all that is left behind a place
-pub record IsAddressBehind (line : List ℕ) (end : ℕ) (at : Addr) : Type 0 where
-  pub cylinder : at.cyl < 65536
-  pub head : at.head < 65536
-  pub left : rest_tokens line end ≡ decimal at.cyl ∷ decimal at.head ∷ []
+-- no token of a kind is the next behind a place, and this is the column where that is seen
+abbrev pub IsNone : List ℕ → ℕ → Kind → ℕ → Type 0
+IsNone line end kind column = (kinds : List Kind) → values_behind line end (kind ∷ kinds) ≡ Err column
 
--- anything else is left, and this is the column where that is seen
-abbrev pub IsNoAddress : List ℕ → ℕ → ℕ → Type 0
-IsNoAddress line end column =
-    fault_column (next_column end) (number 65535 ∷ number 65535 ∷ []) (rest_tokens line end) ≡ Some column
+-- what a form asks for is answered, by the tokens behind its word
+abbrev pub AsksFor : Form → List ℕ → ℕ → Result What LineFault → Type 0
+AsksFor form line end answer = answer ≡ what_in (asked_by form (values_behind line end form.kinds))

@@ -1,6 +1,7 @@
 pub mod Lines
+pub mod Grammar
 pub mod Parse
-pub mod Items
+pub mod Phrase
 pub mod Text
-pub mod Put
+pub mod Items
 pub mod Inside

@@ -3,16 +3,16 @@
 
 mod misread;
 mod parse;
+mod phrase;
 mod print;
-mod put;
 #[cfg(test)]
 mod tests;
 mod text;
 
-pub use misread::{Item, Misreading};
-pub use parse::{LineFault, What, parse_line};
-pub use print::{ANSWER_LIMIT, LINE_ROOM, print_misreading, print_reply};
-pub use put::{NUMBER_ROOM, put_bytes, put_number};
+pub use misread::Misreading;
+pub use parse::{Line, LineFault, What, parse_line};
+pub use phrase::{NUMBER_ROOM, Part, put_number, put_phrase};
+pub use print::{LINE_ROOM, print_misreading, print_reply};
 
 /// The most bytes of a script's line, without its line feed.
 pub const LINE_LIMIT: usize = 131_072;

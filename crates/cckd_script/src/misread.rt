@@ -1,5 +1,3 @@
-use cckd_base::Call;
-
 /// Why a line has a refusal in place of a call.
 #[derive(Clone, Copy, Debug, PartialEq, Eq)]
 pub enum Misreading {
@@ -9,13 +7,4 @@ pub enum Misreading {
     LineTooLong,
     /// The first byte past the script's limit stands in the line.
     ScriptTooLong,
-}
-
-/// What has one reply in a script.
-#[derive(Clone, Copy, Debug, PartialEq, Eq)]
-pub enum Item {
-    /// A call that a line asks, or the one that ends a run.
-    Asked(Call),
-    /// A line that is refused, or a script that is too long.
-    Misread(Misreading),
 }

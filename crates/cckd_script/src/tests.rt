@@ -1,22 +1,37 @@
 ghost use Rattle.std.specs.Prelude.{◌≡◌, ◌≤◌, length, vec_len, IfOk};
-ghost use Rattle.cckd_script.specs.Text.{FitsCall, answered_length};
+ghost use Rattle.cckd_script.specs.Text.{FitsCall, RefusalFitsCall, answered_length};
 
-use crate::{LINE_ROOM, LineFault, Misreading, What, parse_line, print_misreading, print_reply};
-use cckd_base::{Addr, Call, Refusal, Reply, TrackFault};
+use crate::{
+    LINE_ROOM, Line, LineFault, Misreading, What, parse_line, print_misreading, print_reply,
+};
+use cckd_base::{Addr, Call, Full, Refusal, Reply, TrackFault, Turn};
 use std::alloc::{AllocError, Global};
+use std::process::Abort;
 use std::test::Fail;
 
+/// An address.
+const AT: Addr = Addr {
+    cyl: 1112,
+    head: 14,
+};
+
+/// What a line asks, of no session.
+const fn asks(what: What) -> Result<Line, LineFault> {
+    Ok(Line { who: None, what })
+}
+
 /// A line that reads the track at an address.
-const fn read(cyl: u16, head: u16) -> Result<What, LineFault> {
-    Ok(What::One {
+const fn read(cyl: u16, head: u16) -> Result<Line, LineFault> {
+    asks(What::One {
         call: Call::Read {
             at: Addr { cyl, head },
         },
+        input_len: 0,
     })
 }
 
 /// A line that is wrong at a column.
-const fn wrong(column: u32) -> Result<What, LineFault> {
+const fn wrong(column: u32) -> Result<Line, LineFault> {
     Err(LineFault { column })
 }
 
@@ -27,35 +42,40 @@ fn zeros(alloc: Global, len: usize) -> Result<Vec<u8>, AllocError>
     vec![in alloc; 0; len]
 }
 
-/// The line of a reply.
-fn reply_line(alloc: Global, call: Call, reply: Reply, out: &[u8]) -> Result<Vec<u8>, AllocError>
-    requires fits { FitsCall call reply }
+/// Tells whether the reply to a call that gave three bytes is printed as this line.
+fn told(rt: &impl Abort, line: &mut [u8], call: Call, reply: Reply, out: &[u8], text: &[u8])
+    requires fits { FitsCall call 3 reply }
     requires answered { answered_length reply ≤ length out.now }
-    requires short { answered_length reply ≤ 65024 }
+    requires room { LINE_ROOM ≤ length line.old }
 {
-    let mut line = zeros(alloc, LINE_ROOM)?;
-    let end = print_reply(call, &reply, out, &mut line);
-    line.truncate(end as usize);
-    Ok(line)
+    let end = print_reply(None, call, &reply, 3, out, line);
+    assert_eq!(rt; &line[..end as usize], text);
 }
 
-/// The line of a line that is refused.
-fn misreading_line(alloc: Global, why: Misreading) -> Result<Vec<u8>, AllocError> {
-    let mut line = zeros(alloc, LINE_ROOM)?;
-    let end = print_misreading(why, &mut line);
-    line.truncate(end as usize);
-    Ok(line)
+/// Tells whether a refusal is printed as this line.
+fn refused(rt: &impl Abort, line: &mut [u8], why: Refusal, text: &[u8])
+    requires fits { RefusalFitsCall why }
+    requires room { LINE_ROOM ≤ length line.old }
+{
+    told(rt, line, Call::Close, Reply::Refused(why), b"", text);
+}
+
+/// Tells whether a step of the collector is printed as this line.
+fn turned(rt: &impl Abort, line: &mut [u8], turn: Turn, text: &[u8])
+    requires { LINE_ROOM ≤ length line.old }
+{
+    told(rt, line, Call::Turn, Reply::Turned(turn), b"", text);
 }
 
 #[test]
-fn lines_are_read_or_wrong_at_their_first_wrong_token(rt: HostRuntime) {
-    let rows: [(&[u8], Result<What, LineFault>); 22] = [
+fn lines_are_read_or_wrong_at_their_first_wrong_token(rt: HostRuntime) -> Result<(), Fail> {
+    let rows: [(&[u8], Result<Line, LineFault>); 22] = [
         (b"read 0 0", read(0, 0)),
         (b"read 41 1", read(41, 1)),
         (b"read 65535 65535", read(65535, 65535)),
-        (b"", Ok(What::Nothing)),
-        (b"# read 0 0", Ok(What::Nothing)),
-        (b"#", Ok(What::Nothing)),
+        (b"", asks(What::Nothing)),
+        (b"# read 0 0", asks(What::Nothing)),
+        (b"#", asks(What::Nothing)),
         (b"read 0 x", wrong(8)),
         (b"read 0", wrong(7)),
         (b"read", wrong(5)),
@@ -73,71 +93,257 @@ fn lines_are_read_or_wrong_at_their_first_wrong_token(rt: HostRuntime) {
         (b"read 0 0 ", wrong(10)),
         (b"read 0 +1", wrong(8)),
     ];
+    let mut into = zeros(rt.alloc(), 65_536)?;
     for (line, answer) in rows {
-        assert_eq!(rt; parse_line(line), answer);
+        assert_eq!(rt; parse_line(line, false, &mut into), answer);
     }
+    Ok(())
 }
 
 #[test]
-fn a_track_is_told_with_its_address_length_and_bytes(rt: HostRuntime) -> Result<(), Fail> {
-    let call = Call::Read {
-        at: Addr {
-            cyl: 1112,
-            head: 14,
-        },
-    };
-    let none = reply_line(rt.alloc(), call, Reply::Track { len: 0 }, b"\xff")?;
-    assert_eq!(rt; none.as_slice(), b"track 1112 14 0 -\n".as_slice());
-    let some = reply_line(
-        rt.alloc(),
-        call,
+fn each_answer_has_its_text(rt: HostRuntime) -> Result<(), Fail> {
+    let mut room = zeros(rt.alloc(), LINE_ROOM)?;
+    let line = room.as_mut_slice();
+    let out = b"\x00\xaf\xf0\xff";
+    let read = Call::Read { at: AT };
+    let write = Call::Write { at: AT };
+    let get = Call::GetRecord { at: AT, num: 255 };
+    let put = Call::PutRecord { at: AT, num: 1 };
+    told(
+        &rt,
+        line,
+        read,
+        Reply::Track { len: 0 },
+        out,
+        b"track 1112 14 0 -\n",
+    );
+    told(
+        &rt,
+        line,
+        read,
         Reply::Track { len: 3 },
-        b"\x00\xaf\xf0\xff",
-    )?;
-    assert_eq!(rt; some.as_slice(), b"track 1112 14 3 00aff0\n".as_slice());
+        out,
+        b"track 1112 14 3 00aff0\n",
+    );
+    told(
+        &rt,
+        line,
+        write,
+        Reply::Written { len: 3 },
+        b"",
+        b"written 1112 14 3\n",
+    );
+    let record = Reply::Record {
+        key_len: 1,
+        body_len: 3,
+    };
+    told(
+        &rt,
+        line,
+        get,
+        record,
+        out,
+        b"record 1112 14 255 00 aff0ff\n",
+    );
+    let bare = Reply::Record {
+        key_len: 0,
+        body_len: 2,
+    };
+    told(&rt, line, get, bare, out, b"record 1112 14 255 - 00af\n");
+    told(
+        &rt,
+        line,
+        put,
+        Reply::Replaced { len: 3 },
+        b"",
+        b"replaced 1112 14 1 3\n",
+    );
+    Ok(())
+}
+
+#[test]
+fn each_answer_without_bytes_has_its_text(rt: HostRuntime) -> Result<(), Fail> {
+    let mut room = zeros(rt.alloc(), LINE_ROOM)?;
+    let line = room.as_mut_slice();
+    told(&rt, line, Call::Harden, Reply::Hardened, b"", b"hardened\n");
+    told(
+        &rt,
+        line,
+        Call::Add,
+        Reply::Added { slot: 1 },
+        b"",
+        b"added 1\n",
+    );
+    told(
+        &rt,
+        line,
+        Call::Merge,
+        Reply::Merged { slot: 8 },
+        b"",
+        b"merged 8\n",
+    );
+    told(
+        &rt,
+        line,
+        Call::Drop,
+        Reply::Dropped { slot: 2 },
+        b"",
+        b"dropped 2\n",
+    );
+    told(
+        &rt,
+        line,
+        Call::Compress,
+        Reply::Compressed,
+        b"",
+        b"compressed\n",
+    );
+    let shown = Reply::Shown {
+        layers: 3,
+        counts: [2_000, 0, 17, 0, 0, 0, 0, 0, 0],
+    };
+    told(
+        &rt,
+        line,
+        Call::Display,
+        shown,
+        b"",
+        b"layers 3: 2000 0 17\n",
+    );
+    let checked = Reply::Checked { level: 3, bad: 12 };
+    told(
+        &rt,
+        line,
+        Call::Check { level: 3 },
+        checked,
+        b"",
+        b"checked 3: 12 bad\n",
+    );
+    told(&rt, line, Call::Close, Reply::Closed, b"", b"closed\n");
+    Ok(())
+}
+
+#[test]
+fn each_step_of_the_collector_has_its_text(rt: HostRuntime) -> Result<(), Fail> {
+    let mut room = zeros(rt.alloc(), LINE_ROOM)?;
+    let rows: [(Turn, &[u8]); 6] = [
+        (
+            Turn::Copied {
+                track: 5,
+                to: 3_104,
+            },
+            b"gc copied track 5 to 3104\n",
+        ),
+        (
+            Turn::Moved {
+                track: 5,
+                from: 9_000,
+                to: 3_104,
+            },
+            b"gc moved track 5 from 9000 to 3104\n",
+        ),
+        (
+            Turn::MovedTable {
+                group: 7,
+                from: 9_000,
+                to: 1_056,
+            },
+            b"gc moved table 7 from 9000 to 1056\n",
+        ),
+        (
+            Turn::GivenUp {
+                track: 5,
+                picked: 9_000,
+                now: 0,
+            },
+            b"gc gave up track 5: picked 9000, now 0\n",
+        ),
+        (Turn::Trimmed { size: 4_096 }, b"gc trimmed to 4096\n"),
+        (Turn::Idle, b"gc idle\n"),
+    ];
+    for (turn, text) in rows {
+        turned(&rt, &mut room, turn, text);
+    }
+    Ok(())
+}
+
+#[test]
+fn each_track_fault_has_its_text(rt: HostRuntime) -> Result<(), Fail> {
+    let mut room = zeros(rt.alloc(), LINE_ROOM)?;
+    let rows: [(TrackFault, &[u8]); 5] = [
+        (
+            TrackFault::TooLong {
+                len: 65_024,
+                max: 4_096,
+            },
+            b"refused: track too long 65024 over 4096\n",
+        ),
+        (TrackFault::NoEnd { at: 37 }, b"refused: no end at 37\n"),
+        (
+            TrackFault::Compressed { byte: 255 },
+            b"refused: compressed 255\n",
+        ),
+        (
+            TrackFault::WrongTrack { cyl: 2, head: 9 },
+            b"refused: wrong track 2 9\n",
+        ),
+        (
+            TrackFault::BadRecord { at: 21 },
+            b"refused: bad record at 21\n",
+        ),
+    ];
+    for (fault, text) in rows {
+        refused(&rt, &mut room, Refusal::Track(fault), text);
+    }
     Ok(())
 }
 
 #[test]
 fn each_refusal_has_its_text(rt: HostRuntime) -> Result<(), Fail> {
-    let rows: [(Refusal, &[u8]); 7] = [
-        (Refusal::NoSuchTrack, b"refused: no such track\n"),
-        (Refusal::ReadFault, b"fault: read\n"),
-        (
-            Refusal::Track(TrackFault::TooLong {
-                len: 65_024,
-                max: 4_096,
-            }),
-            b"refused: track too long 65024 over 4096\n",
-        ),
-        (
-            Refusal::Track(TrackFault::NoEnd { at: 37 }),
-            b"refused: no end at 37\n",
-        ),
-        (
-            Refusal::Track(TrackFault::Compressed { byte: 255 }),
-            b"refused: compressed 255\n",
-        ),
-        (
-            Refusal::Track(TrackFault::WrongTrack { cyl: 2, head: 9 }),
-            b"refused: wrong track 2 9\n",
-        ),
-        (
-            Refusal::Track(TrackFault::BadRecord { at: 21 }),
-            b"refused: bad record at 21\n",
-        ),
-    ];
-    for (why, text) in rows {
-        let line = reply_line(rt.alloc(), Call::Close, Reply::Refused(why), b"")?;
-        assert_eq!(rt; line.as_slice(), text);
-    }
-    let line = reply_line(rt.alloc(), Call::Close, Reply::Closed, b"")?;
-    assert_eq!(rt; line.as_slice(), b"closed\n".as_slice());
+    let mut room = zeros(rt.alloc(), LINE_ROOM)?;
+    let line = room.as_mut_slice();
+    let full = Full {
+        need: 160,
+        largest: 152,
+        room: 7,
+    };
+    refused(&rt, line, Refusal::NoSuchTrack, b"refused: no such track\n");
+    refused(
+        &rt,
+        line,
+        Refusal::NoRecord { num: 3 },
+        b"refused: no record 3\n",
+    );
+    let differs = Refusal::LengthDiffers { has: 80 };
+    refused(&rt, line, differs, b"refused: length differs, has 80\n");
+    refused(
+        &rt,
+        line,
+        Refusal::Full(full),
+        b"refused: full, need 160 largest 152 room 7\n",
+    );
+    let many = Refusal::TooMany { have: 8 };
+    refused(&rt, line, many, b"refused: too many shadow files, 8\n");
+    refused(
+        &rt,
+        line,
+        Refusal::OnlyBase,
+        b"refused: only the base file\n",
+    );
+    refused(&rt, line, Refusal::ReadFault, b"fault: read\n");
+    refused(&rt, line, Refusal::WriteFault, b"fault: write\n");
+    refused(&rt, line, Refusal::SyncFault, b"fault: sync\n");
+    let broken = Refusal::Broken {
+        at: 18_446_744_073_709_551_615,
+    };
+    refused(&rt, line, broken, b"broken at 18446744073709551615\n");
+    refused(&rt, line, Refusal::Memory, b"no memory\n");
     Ok(())
 }
 
 #[test]
 fn a_line_that_is_refused_has_its_text(rt: HostRuntime) -> Result<(), Fail> {
+    let mut room = zeros(rt.alloc(), LINE_ROOM)?;
     let rows: [(Misreading, &[u8]); 3] = [
         (
             Misreading::LineFault { column: 131_073 },
@@ -147,8 +353,8 @@ fn a_line_that_is_refused_has_its_text(rt: HostRuntime) -> Result<(), Fail> {
         (Misreading::ScriptTooLong, b"refused: script too long\n"),
     ];
     for (why, text) in rows {
-        let line = misreading_line(rt.alloc(), why)?;
-        assert_eq!(rt; line.as_slice(), text);
+        let end = print_misreading(why, &mut room);
+        assert_eq!(rt; &room[..end as usize], text);
     }
     Ok(())
 }

@@ -1,20 +1,15 @@
 -- Which pieces a caller finds after a call: the one that the call made, and each that it doesn't name.
-use Rattle.std.proofs.Common.{◌≡◌, ◌⊎◌, ℕ, zero, suc, ◌+◌, ◌<◌, ◌≤◌, Bool, true, false, ◌&&◌, ◌||◌, nat_le, nat_lt, List, [], ◌∷◌, ◌++◌, length, get_or, map, Option, Some, None, IfSome, refl, sym, ◌∙◌, ap, subst, arith, inl, inr, cond}
+use Rattle.std.proofs.Common.{◌≡◌, ◌⊎◌, ℕ, zero, suc, ◌+◌, ◌<◌, ◌≤◌, Bool, true, false, ◌&&◌, ◌||◌, nat_le, nat_lt, List, [], ◌∷◌, ◌++◌, slice_get, map, Option, Some, None, IfSome, refl, sym, ◌∙◌, ap, subst, arith, inl, inr, cond}
 use Rattle.std.specs.Option.{option_map}
 use Rattle.std.proofs.lemmas.Bool.{cond_both, and_parts, eq-eqb, false_from_ne_true, le-leb, lt-leb, lt-ltb, le-ltb, cases_lt}
 use Rattle.cckd_base.specs.declared.space.Owner.{Owner}
 use Rattle.cckd_space.specs.declared.piece.Kind.{Kind}
 use Rattle.cckd_space.specs.declared.piece.Kind.TheVariants.{Used, Free, Reserved, Leaving, Pending}
 use Rattle.cckd_space.specs.declared.piece.Piece.{Piece}
-use Rattle.cckd_space.specs.Pieces.{is_free, is_used_at, is_reserved_at, first, replaced, free_run, reserved_piece, reserved_in, settled, joined, merged, has_room, aligned_up, piece_end, trimmed, used_end, end_place, appended, counted, AreUsedOrFree, IsLaid, free_piece, is_used, free_kind, used_kind}
-use Rattle.cckd_space.specs.Plan.{first_fit, place_of, reserved_at, with_reserved, has_byte, has_used_byte, has_free_byte}
+use Rattle.cckd_space.specs.Pieces.{Has, is_free, is_used_at, is_reserved_at, first, replaced, free_run, reserved_piece, reserved_in, settled, joined, merged, has_room, aligned_up, piece_end, trimmed, used_end, end_place, appended, counted, AreUsedOrFree, IsLaid, free_piece, is_used, free_kind, used_kind}
+use Rattle.cckd_space.specs.Plan.{first_fit, place_of, reserved_by, with_reserved, has_byte, has_used_byte, has_free_byte}
 use Rattle.cckd_space.proofs.LaidLemmas.{laid_reserved_in, laid_appended, laid_settled, laid_le}
 use Rattle.cckd_space.proofs.SearchLemmas.{reserved_there, used_there}
-
--- a piece of a list
-abbrev pub Has : Piece → List Piece → Type 0
-Has p [] = ⊥
-Has p (q ∷ qs) = (q ≡ p) ⊎ Has p qs
 
 has_left : (p : Piece) (xs ys : List Piece) → Has p xs → Has p (xs ++ ys)
 has_left p [] ys h = absurd h
@@ -56,15 +51,15 @@ found test pos only at (q ∷ qs) end p l h t = elim h [
       rw n (found test pos only (at + q.size) qs end p l.2 m t)
 ]
 
-has_at : (ps : List Piece) (i : ℕ) (d : Piece) → i < length ps → Has (get_or ps i d) ps
-has_at [] i d l = absurd (omega arith)
-has_at (q ∷ qs) zero d l = inl refl
-has_at (q ∷ qs) (suc i) d l = inr (has_at qs i d (omega arith))
+-- a piece that has a number is there
+pub has_number : (ps : List Piece) (i : ℕ) (p : Piece) → slice_get ps i ≡ Some p → Has p ps
+has_number [] i p e = absurd cc
+has_number (q ∷ qs) zero p e = inl cc
+has_number (q ∷ qs) (suc i) p e = inr (has_number qs i p e)
 
--- the same of a piece that was read from the list
-pub found_read : (test : Piece → Bool) (pos : ℕ) → ((p : Piece) → test p ≡ true → p.pos ≡ pos) → (ps qs : List Piece) (end i : ℕ) (d : Piece) → IsLaid 0 ps end → qs ≡ ps → i < length qs
-    → test (get_or qs i d) ≡ true → first test ps ≡ Some (get_or qs i d)
-found_read test pos only ps qs end i d l s h t = found test pos only 0 ps end (get_or qs i d) l (subst (Has (get_or qs i d)) s (has_at qs i d h)) t
+-- and where it passes such a test it is the one that is found
+pub found_number : (test : Piece → Bool) (pos : ℕ) → ((p : Piece) → test p ≡ true → p.pos ≡ pos) → (ps qs : List Piece) (end i : ℕ) (p : Piece) → IsLaid 0 ps end → qs ≡ ps → slice_get qs i ≡ Some p → test p ≡ true → first test ps ≡ Some p
+found_number test pos only ps qs end i p l s e t = found test pos only 0 ps end p l (subst (Has p) s (has_number qs i p e)) t
 
 -- a piece that a change doesn't name stays
 pub has_replaced : (test : Piece → Bool) (news : Piece → List Piece) (ps : List Piece) (p : Piece) → test p ≡ false → Has p ps → Has p (replaced test news ps)
@@ -178,7 +173,7 @@ placed_found need ps end some l = by (first (has_room need) ps) refl
 pub placed_keeps : (need : ℕ) (ps : List Piece) (p : Piece) → is_free p ≡ false → Has p ps → Has p (with_reserved need ps)
 placed_keeps need ps p n h = by (first_fit need ps) refl
   where
-    by : (o : Option ℕ) → first_fit need ps ≡ o → Has p (reserved_at o need ps)
+    by : (o : Option ℕ) → first_fit need ps ≡ o → Has p (reserved_by o need ps)
     by None e = has_trimmed ps (free_run (used_end ps) (end_place ps) ++ reserved_piece (end_place ps) need ∷ []) p n h
     by (Some at) e = has_replaced (has_room need) (reserved_in need) ps p (rw n refl) h
 

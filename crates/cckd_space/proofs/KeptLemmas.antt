@@ -5,8 +5,8 @@ use Rattle.std.proofs.lemmas.Bool.{cond_both, cases_lt, ltb-true}
 use Rattle.std.proofs.lemmas.List.{get_or-append-add, length-take-le}
 use Rattle.cckd_space.specs.declared.piece.Kind.TheVariants.{Used, Free, Reserved, Leaving, Pending}
 use Rattle.cckd_space.specs.declared.piece.Piece.{Piece}
-use Rattle.cckd_space.specs.Pieces.{is_free, replaced, free_piece, free_run, reserved_piece, reserved_in, freed, joined, merged, retired, retired_as, released, has_room, aligned_up, piece_end, offer, largest, trimmed, used_end, end_place, appended, cut, IsLaid}
-use Rattle.cckd_space.specs.Inside.{AreApart, IsShut, is_open, is_pending}
+use Rattle.cckd_space.specs.Pieces.{is_pending, is_free, replaced, free_piece, free_run, reserved_piece, reserved_in, freed, joined, merged, retired, retired_as, released, has_room, aligned_up, piece_end, offer, largest, trimmed, used_end, end_place, appended, cut, IsLaid}
+use Rattle.cckd_space.specs.Inside.{AreMerged, IsShut, is_open}
 use Rattle.cckd_space.proofs.LaidLemmas.{room_facts}
 use Rattle.cckd_space.proofs.SearchLemmas.{free_shut}
 use Rattle.cckd_space.proofs.MarkLemmas.{released_same}
@@ -48,7 +48,7 @@ shut_trimmed (suc n) (p ∷ []) tail l h = absurd (omega arith)
 shut_trimmed (suc n) (p ∷ q ∷ qs) tail l h = (h.0, shut_trimmed n (q ∷ qs) tail (omega arith) h.1)
 
 -- what isn't Pending, and stands before another such piece, stays where the Pending ones are freed
-pub shut_released : (n : ℕ) (ps : List Piece) → AreApart ps → n ≤ position_or_len is_pending ps - 1 → IsShut n ps → IsShut n (merged (map released ps))
+pub shut_released : (n : ℕ) (ps : List Piece) → AreMerged ps → n ≤ position_or_len is_pending ps - 1 → IsShut n ps → IsShut n (merged (map released ps))
 shut_released zero ps a l h = tt
 shut_released (suc n) [] a l h = absurd h
 shut_released (suc n) (p ∷ []) a l h = by (is_pending p) refl
@@ -226,7 +226,7 @@ largest_joined_at old now at d offered l n o =
     omega (arith, a, b, c)
 
 -- a piece freed at an index, and merged with its neighbours, leaves the pieces before them as they were
-pub shut_freed : (solid at few : ℕ) (xs now : List Piece) (d : Piece) → AreApart xs → at < length xs → now ≡ merged (take at xs ++ freed (get_or xs at d) ∷ drop (at + 1) xs) → few ≡ min solid (at - 1)
+pub shut_freed : (solid at few : ℕ) (xs now : List Piece) (d : Piece) → AreMerged xs → at < length xs → now ≡ merged (take at xs ++ freed (get_or xs at d) ∷ drop (at + 1) xs) → few ≡ min solid (at - 1)
     → IsShut solid xs → IsShut few now
 shut_freed solid at few xs now d a l e f h = elim (cases_lt 0 at) [
   | inl some ↦

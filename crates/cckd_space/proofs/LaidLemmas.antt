@@ -4,32 +4,33 @@ use Rattle.std.proofs.lemmas.Bool.{cond_both, cases_lt, and_parts, ltb-true, ltb
 use Rattle.std.proofs.lemmas.List.{append-nil}
 use Rattle.cckd_base.specs.declared.space.Owner.{Owner}
 use Rattle.cckd_base.specs.declared.space.Extent.{Extent}
+use Rattle.cckd_base.specs.Survey.{StandApart}
 use Rattle.cckd_space.specs.declared.piece.Kind.{Kind}
 use Rattle.cckd_space.specs.declared.piece.Kind.TheVariants.{Used, Free, Reserved, Leaving, Pending}
 use Rattle.cckd_space.specs.declared.piece.Piece.{Piece}
-use Rattle.cckd_space.specs.Pieces.{is_free, free_kind, first, replaced, free_piece, joined, merged, IsPieceAt, IsApart, IsLaid, IsFormedAs, piece_end, free_run, reserved_piece, reserved_in, aligned_up, has_room, has_room_below, settled, left, freed, retired, retired_as, released, released_as, trimmed, used_end, end_place, appended, cut, AreUsed, pieces_of, used_piece}
+use Rattle.cckd_space.specs.Pieces.{is_free, free_kind, first, replaced, free_piece, joined, merged, IsPieceAt, NotBothFree, IsLaid, IsFormedAs, piece_end, free_run, reserved_piece, reserved_in, aligned_up, has_room, has_room_below, settled, left, freed, retired, retired_as, released, released_as, trimmed, used_end, end_place, appended, cut, pieces_of, used_piece}
 use Rattle.cckd_space.specs.Inside.{size_of, EndsAt, EndsBelow}
 use Rattle.cckd_space.proofs.EndLemmas.{free_run_none}
 
-pub not_free_apart : (q p : Piece) (ps : List Piece) → is_free p ≡ false → IsApart q (p ∷ ps)
-not_free_apart q p ps e = elim (free_kind q.kind) as (λ b. (b && free_kind p.kind) ≡ false) [ true ↦ e | false ↦ refl ]
+pub taken_behind : (q p : Piece) (ps : List Piece) → is_free p ≡ false → NotBothFree q (p ∷ ps)
+taken_behind q p ps e = elim (free_kind q.kind) as (λ b. (b && free_kind p.kind) ≡ false) [ true ↦ e | false ↦ refl ]
 
-pub apart_not_free : (p : Piece) (ps : List Piece) → is_free p ≡ false → IsApart p ps
-apart_not_free p [] e = tt
-apart_not_free p (q ∷ qs) e = rw e refl
+pub taken_before : (p : Piece) (ps : List Piece) → is_free p ≡ false → NotBothFree p ps
+taken_before p [] e = tt
+taken_before p (q ∷ qs) e = rw e refl
 
 -- behind a Free piece stands none
-free_apart : (p r : Piece) (ps : List Piece) → is_free p ≡ true → IsApart p ps → is_free r ≡ true → IsApart r ps
-free_apart p r [] e h f = tt
-free_apart p r (q ∷ qs) e h f = rw f (rw e at h)
+free_before : (p r : Piece) (ps : List Piece) → is_free p ≡ true → NotBothFree p ps → is_free r ≡ true → NotBothFree r ps
+free_before p r [] e h f = tt
+free_before p r (q ∷ qs) e h f = rw f (rw e at h)
 
 module _ (test : Piece → Bool) (news : Piece → List Piece) (Q : Piece → Type 0) (end : ℕ)
-    (outer : (q p : Piece) (ps : List Piece) → test p ≡ true → Q p → IsApart q (p ∷ ps) → IsApart q (news p ++ ps))
+    (outer : (q p : Piece) (ps : List Piece) → test p ≡ true → Q p → NotBothFree q (p ∷ ps) → NotBothFree q (news p ++ ps))
     (inner : (at : ℕ) (p : Piece) (ps : List Piece) → test p ≡ true → Q p → IsLaid at (p ∷ ps) end → IsLaid at (news p ++ ps) end) where
-  apart-replaced : (q : Piece) (ps : List Piece) → IfSome (first test ps) Q → IsApart q ps → IsApart q (replaced test news ps)
+  apart-replaced : (q : Piece) (ps : List Piece) → IfSome (first test ps) Q → NotBothFree q ps → NotBothFree q (replaced test news ps)
   apart-replaced q [] s h = h
   apart-replaced q (p ∷ ps) s h =
-      cond_both (test p) (news p ++ ps) (p ∷ replaced test news ps) (λ (l : List Piece). IsApart q l)
+      cond_both (test p) (news p ++ ps) (p ∷ replaced test news ps) (λ (l : List Piece). NotBothFree q l)
       (λ e. outer q p ps e (rw e at s) h)
       (λ e. h)
 
@@ -56,7 +57,7 @@ laid-joined at p (q ∷ qs) end h l =
     cond_both (is_free p && is_free q) (free_piece p.pos (p.size + q.size) ∷ qs) (p ∷ q ∷ qs) (λ (m : List Piece). IsLaid at m end)
     (λ e. (
       record { place = h.place; some = omega (arith, h.some); formed = (refl, refl) },
-      free_apart q (free_piece p.pos (p.size + q.size)) qs (both (is_free p) (is_free q) e) l.1 refl,
+      free_before q (free_piece p.pos (p.size + q.size)) qs (both (is_free p) (is_free q) e) l.1 refl,
       subst (λ (n : ℕ). IsLaid n qs end) (add_assoc at p.size q.size) l.2,
     ))
     (λ e. (h, e, l))
@@ -83,7 +84,7 @@ row-map f k at [] end h = h
 row-map f k at (p ∷ ps) end h =
     (kept_piece f k at p h.0, subst (λ (n : ℕ). IsRow n (map f ps) end) (ap (λ (n : ℕ). at + n) (sym (k.size p))) (row-map f k (at + p.size) ps end h.1))
 
-apart-map : (f : Piece → Piece) → ((p : Piece) → is_free (f p) ≡ is_free p) → (p : Piece) (ps : List Piece) → IsApart p ps → IsApart (f p) (map f ps)
+apart-map : (f : Piece → Piece) → ((p : Piece) → is_free (f p) ≡ is_free p) → (p : Piece) (ps : List Piece) → NotBothFree p ps → NotBothFree (f p) (map f ps)
 apart-map f e p [] h = tt
 apart-map f e p (q ∷ qs) h = rw (e p, e q) h
 
@@ -122,20 +123,20 @@ laid_ends ps end h = record {
 }
 
 -- no piece before the list has a Free neighbour in it
-pub record IsApartFromAll (ps : List Piece) : Type 0 where
-  pub apart : (p : Piece) → IsApart p ps
+pub record NeverBothFree (ps : List Piece) : Type 0 where
+  pub apart : (p : Piece) → NotBothFree p ps
 
-pub behind_not_free : (p : Piece) (ps : List Piece) → is_free p ≡ false → IsApartFromAll (p ∷ ps)
-behind_not_free p ps e = record { apart = λ q. not_free_apart q p ps e }
+pub behind_not_free : (p : Piece) (ps : List Piece) → is_free p ≡ false → NeverBothFree (p ∷ ps)
+behind_not_free p ps e = record { apart = λ q. taken_behind q p ps e }
 
-pub behind_free : (p : Piece) (ps : List Piece) → is_free p ≡ true → IsApart p ps → IsApartFromAll ps
+pub behind_free : (p : Piece) (ps : List Piece) → is_free p ≡ true → NotBothFree p ps → NeverBothFree ps
 behind_free p [] e h = record { apart = λ q. tt }
 behind_free p (q ∷ qs) e h = behind_not_free q qs (rw e at h)
 
-pub nothing_behind : IsApartFromAll []
+pub nothing_behind : NeverBothFree []
 nothing_behind = record { apart = λ q. tt }
 
-pub laid_run : (from to : ℕ) (ps : List Piece) (end : ℕ) → from ≤ to → IsApartFromAll ps → IsLaid to ps end → IsLaid from (free_run from to ++ ps) end
+pub laid_run : (from to : ℕ) (ps : List Piece) (end : ℕ) → from ≤ to → NeverBothFree ps → IsLaid to ps end → IsLaid from (free_run from to ++ ps) end
 laid_run from to ps end h a l =
     cond_both (nat_lt from to) (free_piece from (to - from) ∷ []) [] (λ (run : List Piece). IsLaid from (run ++ ps) end)
     (λ e. let lt = ltb-true from to e in (
@@ -146,7 +147,7 @@ laid_run from to ps end h a l =
     (λ e. let le = ltb-false from to e in subst (λ (n : ℕ). IsLaid n ps end) (let s : to ≡ from = omega arith in s) l)
 
 pub laid_reserved : (at need : ℕ) (ps : List Piece) (end : ℕ) → 0 < need → IsLaid (at + need) ps end → IsLaid at (reserved_piece at need ∷ ps) end
-laid_reserved at need ps end h l = (record { place = refl; some = h; formed = (refl, refl) }, apart_not_free (reserved_piece at need) ps refl, l)
+laid_reserved at need ps end h l = (record { place = refl; some = h; formed = (refl, refl) }, taken_before (reserved_piece at need) ps refl, l)
 
 pub up : (at : ℕ) → at ≤ aligned_up at
 up at = omega arith
@@ -184,7 +185,7 @@ any (Some p) = tt
 pub laid_reserved_in : (test : Piece → Bool) (need : ℕ) → 0 < need → ((p : Piece) → test p ≡ true → has_room need p ≡ true) → (ps : List Piece) (end : ℕ) → IsLaid 0 ps end → IsLaid 0 (replaced test (reserved_in need) ps) end
 laid_reserved_in test need some has ps end h =
     laid-replaced test (reserved_in need) (λ p. Unit {0}) end
-    (λ q p rest e u a. apart_not_free q (reserved_in need p ++ rest) (second (is_free q) (is_free p) a (room_facts need p (has p e)).free))
+    (λ q p rest e u a. taken_before q (reserved_in need p ++ rest) (second (is_free q) (is_free p) a (room_facts need p (has p e)).free))
     (λ at p rest e u l. reserved_inner need some at p rest end (room_facts need p (has p e)) l)
     0 ps (any (first test ps)) h
 
@@ -192,15 +193,15 @@ pub laid_settled : (test : Piece → Bool) (len : ℕ) (owner : Owner) (ps : Lis
     → IsLaid 0 (replaced test (λ p. settled len owner p ∷ []) ps) end
 laid_settled test len owner ps end s h =
     laid-replaced test (λ p. settled len owner p ∷ []) (λ p. (1 ≤ len) × (len ≤ p.size)) end
-    (λ q p rest e u a. not_free_apart q (settled len owner p) rest refl)
-    (λ at p rest e u l. (record { place = l.0.place; some = l.0.some; formed = u }, apart_not_free (settled len owner p) rest refl, l.2))
+    (λ q p rest e u a. taken_behind q (settled len owner p) rest refl)
+    (λ at p rest e u l. (record { place = l.0.place; some = l.0.some; formed = u }, taken_before (settled len owner p) rest refl, l.2))
     0 ps s h
 
 pub laid_left : (test : Piece → Bool) (ps : List Piece) (end : ℕ) → IsLaid 0 ps end → IsLaid 0 (replaced test (λ p. left p ∷ []) ps) end
 laid_left test ps end h =
     laid-replaced test (λ p. left p ∷ []) (λ p. Unit {0}) end
-    (λ q p rest e u a. not_free_apart q (left p) rest refl)
-    (λ at p rest e u l. (record { place = l.0.place; some = l.0.some; formed = (refl, refl) }, apart_not_free (left p) rest refl, l.2))
+    (λ q p rest e u a. taken_behind q (left p) rest refl)
+    (λ at p rest e u l. (record { place = l.0.place; some = l.0.some; formed = (refl, refl) }, taken_before (left p) rest refl, l.2))
     0 ps (any (first test ps)) h
 
 freed_keeps : KeepsPlaces freed
@@ -248,10 +249,10 @@ laid_released ps end h = laid-merged 0 (map released ps) end (released_row ps en
 pub released_size : (ps : List Piece) (end : ℕ) → IsLaid 0 ps end → size_of (map released ps) ≡ end
 released_size ps end h = let r = row_size 0 (map released ps) end (released_row ps end h) in omega (arith, r)
 
-apart-trimmed : (p q : Piece) (qs tail : List Piece) → IsApart p (q ∷ qs) → IsApart p (trimmed (q ∷ qs) ++ tail)
+apart-trimmed : (p q : Piece) (qs tail : List Piece) → NotBothFree p (q ∷ qs) → NotBothFree p (trimmed (q ∷ qs) ++ tail)
 apart-trimmed p q [] tail h =
-    cond_both (is_free q) [] (q ∷ []) (λ (l : List Piece). IsApart p (l ++ tail))
-    (λ e. apart_not_free p tail (second (is_free p) (is_free q) h e))
+    cond_both (is_free q) [] (q ∷ []) (λ (l : List Piece). NotBothFree p (l ++ tail))
+    (λ e. taken_before p tail (second (is_free p) (is_free q) h e))
     (λ e. h)
 apart-trimmed p q (r ∷ rs) tail h = h
 
@@ -260,7 +261,7 @@ laid_trimmed_from at p [] tail end last h t = by (is_free p) refl
   where
     by : (b : Bool) → is_free p ≡ b → IsLaid at (trimmed (p ∷ []) ++ tail) last
     by true e = rw e (subst (λ (n : ℕ). IsLaid n tail last) h.0.place (rw e at t))
-    by false e = rw e (h.0, apart_not_free p tail e, subst (λ (n : ℕ). IsLaid (n + p.size) tail last) h.0.place (rw e at t))
+    by false e = rw e (h.0, taken_before p tail e, subst (λ (n : ℕ). IsLaid (n + p.size) tail last) h.0.place (rw e at t))
 laid_trimmed_from at p (q ∷ qs) tail end last h t =
     (h.0, apart-trimmed p q qs tail h.1, laid_trimmed_from (at + p.size) q qs tail end last h.2 t)
 
@@ -286,17 +287,17 @@ laid_tail from to =
 pub laid_cut : (len : ℕ) (ps : List Piece) (end : ℕ) → IsLaid 0 ps end → IsLaid 0 (cut len end ps) (max (used_end ps) (min len end))
 laid_cut len ps end h = laid_trimmed ps (free_run (used_end ps) (min len end)) end (max (used_end ps) (min len end)) h (laid_tail (used_end ps) (min len end))
 
-pub laid_pieces_of : (at : ℕ) (es : List Extent) (size : ℕ) → AreUsed at es size → IsLaid at (pieces_of at es size) size
+pub laid_pieces_of : (at : ℕ) (es : List Extent) (size : ℕ) → StandApart at es size → IsLaid at (pieces_of at es size) size
 laid_pieces_of at [] size h = subst (λ (l : List Piece). IsLaid at l size) (append-nil (free_run at size)) (laid_run at size [] size h nothing_behind refl)
 laid_pieces_of at (e ∷ es) size h =
     laid_run at e.pos (used_piece e ∷ pieces_of (e.pos + e.size) es size) size h.0
     (behind_not_free (used_piece e) (pieces_of (e.pos + e.size) es size) refl) (
       record { place = refl; some = omega (arith, h.1, h.2); formed = (h.1, h.2) },
-      apart_not_free (used_piece e) (pieces_of (e.pos + e.size) es size) refl,
+      taken_before (used_piece e) (pieces_of (e.pos + e.size) es size) refl,
       laid_pieces_of (e.pos + e.size) es size h.3,
     )
 
-pub used_le : (at : ℕ) (es : List Extent) (size : ℕ) → AreUsed at es size → at ≤ size
+pub used_le : (at : ℕ) (es : List Extent) (size : ℕ) → StandApart at es size → at ≤ size
 used_le at [] size h = h
 used_le at (e ∷ es) size h = let r = used_le (e.pos + e.size) es size h.3 in omega (arith, r, h.0)
 

@@ -4,7 +4,12 @@ pub mod FirstLemmas
 pub mod MergeLemmas
 pub mod NumberLemmas
 pub mod SearchLemmas
+pub mod CountLemmas
 pub mod MarkLemmas
 pub mod KeptLemmas
 pub mod CallerLemmas
+pub mod PlaceLemmas
+pub mod SpareLemmas
+pub mod SameLemmas
+pub mod SettleLemmas
 pub mod UsedLemmas

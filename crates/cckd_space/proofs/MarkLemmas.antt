@@ -1,187 +1,107 @@
--- How many pieces of a kind there are after each change, so that the marks of a `Space` stay true.
-use Rattle.std.proofs.Common.{◌≡◌, ℕ, ◌+◌, ◌-◌, ◌≤◌, nat_lt, Bool, true, false, cond, ◌&&◌, List, [], ◌∷◌, ◌++◌, map, refl, subst, sym, ap, arith}
-use Rattle.std.proofs.lemmas.Bool.{cond_both}
+-- The marks of a `Space` stay true.
+use Rattle.std.proofs.Common.{◌≡◌, ℕ, ◌+◌, nat_lt, Bool, true, false, cond, List, [], ◌∷◌, map, Option, Some, None, IsSome, refl, subst, sym, ◌∙◌, ap, arith}
+use Rattle.std.proofs.lemmas.Bool.{lt-ltb, ltb-true, ltb-false}
 use Rattle.cckd_base.specs.declared.space.Extent.{Extent}
 use Rattle.cckd_space.specs.declared.piece.Kind.{Kind}
 use Rattle.cckd_space.specs.declared.piece.Kind.TheVariants.{Used, Free, Reserved, Leaving, Pending}
 use Rattle.cckd_space.specs.declared.piece.Piece.{Piece}
-use Rattle.cckd_space.specs.Pieces.{is_free, replaced, free_piece, free_run, reserved_piece, reserved_in, aligned_up, piece_end, trimmed, retired, retired_as, released, released_as, joined, merged, counted, pieces_of, used_piece}
-use Rattle.cckd_space.specs.Inside.{AreApart, IsMarked, is_leaving, is_pending, leaving_kind, pending_kind}
+use Rattle.cckd_space.specs.Pieces.{free_kind, first, replaced, reserved_in, is_reserved_at, is_used_at, has_room, left, appended, cut, retired, retired_as, released, released_as, merged, counted, pieces_of, is_leaving, is_pending, leaving_kind, pending_kind}
+use Rattle.cckd_space.specs.Inside.{AreMerged, IsMarked}
+use Rattle.cckd_space.proofs.LaidLemmas.{room_facts}
 use Rattle.cckd_space.proofs.MergeLemmas.{merged_same}
+use Rattle.cckd_space.proofs.CountLemmas.{one, count_even, count_reserved_in, count_merged, count_used, count_left, count_retired, count_released, count_cut, count_appended, found_reserved}
 
--- Of a kind that isn't Free.
-
-module _ (of : Kind → Bool) (free : of Free ≡ false) where
-  -- how many pieces are of this kind
-  abbrev pub count : List Piece → ℕ
-  count = counted (λ p. of p.kind)
-
-  count_append : (xs ys : List Piece) → count (xs ++ ys) ≡ count xs + count ys
-  count_append [] ys = omega arith
-  count_append (x ∷ xs) ys = let r = count_append xs ys in omega (arith, r)
-
-  pub count_replaced : (test : Piece → Bool) (news : Piece → List Piece) → ((p : Piece) → count (news p) ≡ 0) → (ps : List Piece) → count (replaced test news ps) ≤ count ps
-  count_replaced test news none [] = omega arith
-  count_replaced test news none (p ∷ ps) =
-      cond_both (test p) (news p ++ ps) (p ∷ replaced test news ps) (λ (l : List Piece). count l ≤ count (p ∷ ps))
-      (λ e. let a = none p in let b = count_append (news p) ps in omega (arith, a, b))
-      (λ e. let r = count_replaced test news none ps in omega (arith, r))
-
-  pub count_run : (from to : ℕ) → count (free_run from to) ≡ 0
-  count_run from to = cond_both (nat_lt from to) (free_piece from (to - from) ∷ []) [] (λ (l : List Piece). count l ≡ 0) (λ e. rw free refl) (λ e. refl)
-
-  pub count_reserved : of Reserved ≡ false → (need : ℕ) (p : Piece) → count (reserved_in need p) ≡ 0
-  count_reserved none need p =
-      let at = aligned_up p.pos in
-      let rest = free_run (at + need) (piece_end p) in
-      let a = count_run p.pos at in
-      let b = count_run (at + need) (piece_end p) in
-      let c = count_append (free_run p.pos at) (reserved_piece at need ∷ rest) in
-      let e : count (reserved_piece at need ∷ rest) ≡ count rest = rw none (omega arith) in
-      omega (arith, a, b, c, e)
-
-  count_trimmed : (ps : List Piece) → count (trimmed ps) ≤ count ps
-  count_trimmed [] = omega arith
-  count_trimmed (p ∷ []) = cond_both (is_free p) [] (p ∷ []) (λ (l : List Piece). count l ≤ count (p ∷ [])) (λ e. omega arith) (λ e. omega arith)
-  count_trimmed (p ∷ q ∷ qs) = let r = count_trimmed (q ∷ qs) in omega (arith, r)
-
-  pub count_end : (ps tail : List Piece) → count tail ≡ 0 → count (trimmed ps ++ tail) ≤ count ps
-  count_end ps tail n = let a = count_trimmed ps in let b = count_append (trimmed ps) tail in omega (arith, a, b, n)
-
-  pub count_appended : of Reserved ≡ false → (from to pos need : ℕ) → count (free_run from to ++ reserved_piece pos need ∷ []) ≡ 0
-  count_appended none from to pos need =
-      let a = count_run from to in
-      let b = count_append (free_run from to) (reserved_piece pos need ∷ []) in
-      let e : count (reserved_piece pos need ∷ []) ≡ 0 = rw none refl in
-      omega (arith, a, b, e)
-
-  count_joined : (p : Piece) (qs : List Piece) → count (joined p qs) ≤ count (p ∷ qs)
-  count_joined p [] = omega arith
-  count_joined p (q ∷ qs) =
-      cond_both (is_free p && is_free q) (free_piece p.pos (p.size + q.size) ∷ qs) (p ∷ q ∷ qs) (λ (l : List Piece). count l ≤ count (p ∷ q ∷ qs))
-      (λ e. rw free (omega arith)) (λ e. omega arith)
-
-  pub count_merged : (ps : List Piece) → count (merged ps) ≤ count ps
-  count_merged [] = omega arith
-  count_merged (p ∷ ps) = let r = count_merged ps in let j = count_joined p (merged ps) in omega (arith, r, j)
-
-  pub count_pieces_of : of Used ≡ false → (at : ℕ) (es : List Extent) (size : ℕ) → count (pieces_of at es size) ≡ 0
-  count_pieces_of none at [] size = count_run at size
-  count_pieces_of none at (x ∷ es) size =
-      let rest = pieces_of (x.pos + x.size) es size in
-      let r = count_pieces_of none (x.pos + x.size) es size in
-      let a = count_run at x.pos in
-      let b = count_append (free_run at x.pos) (used_piece x ∷ rest) in
-      let e : count (used_piece x ∷ rest) ≡ count rest = rw none (omega arith) in
-      omega (arith, r, a, b, e)
-
--- Of the two kinds that are marked.
-
--- with no more of both, the marks stay true
-pub marked_fewer : (old now : List Piece) (leaving pending : Bool) → counted is_leaving now ≤ counted is_leaving old → counted is_pending now ≤ counted is_pending old → IsMarked old leaving pending → IsMarked now leaving pending
-marked_fewer old now leaving pending a b m = record {
-  none_leaving = λ e. let h = m.none_leaving e in omega (arith, h, a);
-  none_pending = λ e. let h = m.none_pending e in omega (arith, h, b);
+-- with as many of both, the marks stay true
+pub marked_even : (old new : List Piece) (leaving pending : Bool) → counted is_leaving new ≡ counted is_leaving old → counted is_pending new ≡ counted is_pending old → IsMarked old leaving pending → IsMarked new leaving pending
+marked_even old new leaving pending a b m = record {
+  some_leaving = m.some_leaving ∙ ap (nat_lt 0) (sym a);
+  some_pending = m.some_pending ∙ ap (nat_lt 0) (sym b);
 }
 
 pub marked_used : (es : List Extent) (size : ℕ) → IsMarked (pieces_of 0 es size) false false
 marked_used es size = record {
-  none_leaving = λ e. count_pieces_of leaving_kind refl refl 0 es size;
-  none_pending = λ e. count_pieces_of pending_kind refl refl 0 es size;
+  some_leaving = ap (nat_lt 0) (sym (count_used leaving_kind refl 0 es size));
+  some_pending = ap (nat_lt 0) (sym (count_used pending_kind refl 0 es size));
 }
+
+free_kinds : (k : Kind) → free_kind k ≡ true → (leaving_kind k ≡ false) × (pending_kind k ≡ false)
+free_kinds Used e = (refl, refl)
+free_kinds Free e = (refl, refl)
+free_kinds Reserved e = (refl, refl)
+free_kinds Leaving e = absurd cc
+free_kinds Pending e = absurd cc
 
 -- bytes reserved in a free piece
-pub marked_filled : (test : Piece → Bool) (need : ℕ) (ps : List Piece) (leaving pending : Bool) → IsMarked ps leaving pending → IsMarked (replaced test (reserved_in need) ps) leaving pending
-marked_filled test need ps leaving pending m =
-    marked_fewer ps (replaced test (reserved_in need) ps) leaving pending
-    (count_replaced leaving_kind refl test (reserved_in need) (count_reserved leaving_kind refl refl need) ps)
-    (count_replaced pending_kind refl test (reserved_in need) (count_reserved pending_kind refl refl need) ps) m
+pub marked_filled : (test : Piece → Bool) (need : ℕ) → ((p : Piece) → test p ≡ true → has_room need p ≡ true) → (ps : List Piece) (leaving pending : Bool) → IsMarked ps leaving pending → IsMarked (replaced test (reserved_in need) ps) leaving pending
+marked_filled test need fits ps leaving pending m =
+    marked_even ps (replaced test (reserved_in need) ps) leaving pending
+    (count_even leaving_kind refl test (reserved_in need) (λ p e. count_reserved_in leaving_kind refl need p ∙ sym (ap one (free_kinds p.kind (room_facts need p (fits p e)).free).0)) ps)
+    (count_even pending_kind refl test (reserved_in need) (λ p e. count_reserved_in pending_kind refl need p ∙ sym (ap one (free_kinds p.kind (room_facts need p (fits p e)).free).1)) ps) m
 
--- one piece, of neither kind, in place of another
-pub marked_swapped : (test : Piece → Bool) (f : Piece → Piece) → ((p : Piece) → leaving_kind (f p).kind ≡ false) → ((p : Piece) → pending_kind (f p).kind ≡ false) → (ps : List Piece) (leaving pending : Bool)
-    → IsMarked ps leaving pending → IsMarked (replaced test (λ p. f p ∷ []) ps) leaving pending
-marked_swapped test f a b ps leaving pending m =
-    marked_fewer ps (replaced test (λ p. f p ∷ []) ps) leaving pending
-    (count_replaced leaving_kind refl test (λ p. f p ∷ []) (λ p. let e = a p in rw e refl) ps)
-    (count_replaced pending_kind refl test (λ p. f p ∷ []) (λ p. let e = b p in rw e refl) ps) m
+-- one piece, of neither kind, in place of a Reserved one
+pub marked_swapped : (pos : ℕ) (f : Piece → Piece) → ((p : Piece) → leaving_kind (f p).kind ≡ false) → ((p : Piece) → pending_kind (f p).kind ≡ false) → (ps : List Piece) (leaving pending : Bool)
+    → IsMarked ps leaving pending → IsMarked (replaced (is_reserved_at pos) (λ p. f p ∷ []) ps) leaving pending
+marked_swapped pos f a b ps leaving pending m =
+    marked_even ps (replaced (is_reserved_at pos) (λ p. f p ∷ []) ps) leaving pending
+    (count_even leaving_kind refl (is_reserved_at pos) (λ p. f p ∷ []) (λ p e. let n = ap one (a p) in let k = ap (λ (x : Kind). one (leaving_kind x)) (found_reserved pos p e) in omega (arith, n, k)) ps)
+    (count_even pending_kind refl (is_reserved_at pos) (λ p. f p ∷ []) (λ p e. let n = ap one (b p) in let k = ap (λ (x : Kind). one (pending_kind x)) (found_reserved pos p e) in omega (arith, n, k)) ps) m
 
--- a piece that leaves
-pub marked_left : (test : Piece → Bool) (f : Piece → Piece) → ((p : Piece) → pending_kind (f p).kind ≡ false) → (ps : List Piece) (leaving pending : Bool)
-    → IsMarked ps leaving pending → IsMarked (replaced test (λ p. f p ∷ []) ps) true pending
-marked_left test f b ps leaving pending m = record {
-  none_leaving = λ (e : true ≡ false). absurd cc;
-  none_pending = λ e.
-      let h = m.none_pending e in
-      let c = count_replaced pending_kind refl test (λ p. f p ∷ []) (λ p. let g = b p in rw g refl) ps in
-      omega (arith, h, c);
-}
+-- a Used piece that leaves
+pub marked_left : (pos : ℕ) (ps : List Piece) (leaving pending : Bool) → IsSome (first (is_used_at pos) ps) → IsMarked ps leaving pending → IsMarked (replaced (is_used_at pos) (λ p. left p ∷ []) ps) true pending
+marked_left pos ps leaving pending there m = by (first (is_used_at pos) ps) refl
+  where
+    by : (o : Option Piece) → first (is_used_at pos) ps ≡ o → IsMarked (replaced (is_used_at pos) (λ p. left p ∷ []) ps) true pending
+    by None e = absurd (let n : false ≡ true = rw e at there in cc)
+    by (Some p) e =
+        let new = replaced (is_used_at pos) (λ q. left q ∷ []) ps in
+        let a = count_left leaving_kind refl pos ps p e in
+        let b = count_left pending_kind refl pos ps p e in
+        let same : counted is_pending new ≡ counted is_pending ps = omega (arith, b) in
+        record {
+          some_leaving = sym (lt-ltb 0 (counted is_leaving new) (omega (arith, a)));
+          some_pending = m.some_pending ∙ ap (nat_lt 0) (sym same);
+        }
 
 pub marked_merged : (ps : List Piece) (leaving pending : Bool) → IsMarked ps leaving pending → IsMarked (merged ps) leaving pending
-marked_merged ps leaving pending m = marked_fewer ps (merged ps) leaving pending (count_merged leaving_kind refl ps) (count_merged pending_kind refl ps) m
+marked_merged ps leaving pending m = marked_even ps (merged ps) leaving pending (count_merged leaving_kind refl ps) (count_merged pending_kind refl ps) m
 
--- another end, with none of both kinds
-pub marked_end : (ps tail : List Piece) (leaving pending : Bool) → counted is_leaving tail ≡ 0 → counted is_pending tail ≡ 0 → IsMarked ps leaving pending → IsMarked (trimmed ps ++ tail) leaving pending
-marked_end ps tail leaving pending a b m = marked_fewer ps (trimmed ps ++ tail) leaving pending (count_end leaving_kind refl ps tail a) (count_end pending_kind refl ps tail b) m
+-- another end
+pub marked_cut : (len size : ℕ) (ps : List Piece) (leaving pending : Bool) → IsMarked ps leaving pending → IsMarked (cut len size ps) leaving pending
+marked_cut len size ps leaving pending m = marked_even ps (cut len size ps) leaving pending (count_cut leaving_kind refl len size ps) (count_cut pending_kind refl len size ps) m
 
-pub marked_cut : (ps : List Piece) (from to : ℕ) (leaving pending : Bool) → IsMarked ps leaving pending → IsMarked (trimmed ps ++ free_run from to) leaving pending
-marked_cut ps from to leaving pending m = marked_end ps (free_run from to) leaving pending (count_run leaving_kind refl from to) (count_run pending_kind refl from to) m
-
-pub marked_appended : (ps : List Piece) (from to pos need : ℕ) (leaving pending : Bool) → IsMarked ps leaving pending → IsMarked (trimmed ps ++ (free_run from to ++ reserved_piece pos need ∷ [])) leaving pending
-marked_appended ps from to pos need leaving pending m =
-    marked_end ps (free_run from to ++ reserved_piece pos need ∷ []) leaving pending
-    (count_appended leaving_kind refl refl from to pos need) (count_appended pending_kind refl refl from to pos need) m
+pub marked_appended : (need : ℕ) (ps : List Piece) (leaving pending : Bool) → IsMarked ps leaving pending → IsMarked (appended need ps) leaving pending
+marked_appended need ps leaving pending m =
+    let a = count_appended leaving_kind refl need ps in
+    let b = count_appended pending_kind refl need ps in
+    marked_even ps (appended need ps) leaving pending (omega (arith, a)) (omega (arith, b)) m
 
 -- once all is retired or released, none is left
 
-retired_stays : (p : Piece) → leaving_kind (retired p).kind ≡ false
-retired_stays p = by p.kind refl
-  where
-    by : (k : Kind) → p.kind ≡ k → leaving_kind (retired_as k p).kind ≡ false
-    by Used e = rw e refl
-    by Free e = rw e refl
-    by Reserved e = rw e refl
-    by Leaving e = refl
-    by Pending e = rw e refl
-
-released_stays : (p : Piece) → pending_kind (released p).kind ≡ false
-released_stays p = by p.kind refl
-  where
-    by : (k : Kind) → p.kind ≡ k → pending_kind (released_as k p).kind ≡ false
-    by Used e = rw e refl
-    by Free e = rw e refl
-    by Reserved e = rw e refl
-    by Leaving e = rw e refl
-    by Pending e = refl
-
-none_mapped : (of : Kind → Bool) (f : Piece → Piece) → ((p : Piece) → of (f p).kind ≡ false) → (ps : List Piece) → counted (λ p. of p.kind) (map f ps) ≡ 0
-none_mapped of f none [] = refl
-none_mapped of f none (p ∷ ps) = let e = none p in let r = none_mapped of f none ps in rw e (omega (arith, r))
-
-pub marked_retired : (ps : List Piece) → IsMarked (map retired ps) false true
-marked_retired ps = record {
-  none_leaving = λ e. none_mapped leaving_kind retired retired_stays ps;
-  none_pending = λ (e : true ≡ false). absurd cc;
-}
-
-released_leaves : (p : Piece) → cond (leaving_kind (released p).kind) 1 0 ≤ cond (leaving_kind p.kind) 1 0
-released_leaves p = elim p.kind as (λ k. cond (leaving_kind (released_as k p).kind) 1 0 ≤ cond (leaving_kind p.kind) 1 0) [ Used ↦ omega arith | Free ↦ omega arith | Reserved ↦ omega arith | Leaving ↦ omega arith | Pending ↦ omega arith ]
-
-leaving_released : (ps : List Piece) → counted is_leaving (map released ps) ≤ counted is_leaving ps
-leaving_released [] = omega arith
-leaving_released (p ∷ ps) = let r = leaving_released ps in let s = released_leaves p in omega (arith, r, s)
+pub marked_retired : (ps : List Piece) (pending : Bool) → IsMarked ps true pending → IsMarked (map retired ps) false true
+marked_retired ps pending m =
+    let some = ltb-true 0 (counted is_leaving ps) (sym m.some_leaving) in
+    let a = count_retired leaving_kind refl ps in
+    let b = count_retired pending_kind refl ps in
+    let none : counted is_leaving (map retired ps) ≡ 0 = omega (arith, a) in
+    record {
+      some_leaving = ap (nat_lt 0) (sym none);
+      some_pending = sym (lt-ltb 0 (counted is_pending (map retired ps)) (omega (arith, b, some)));
+    }
 
 pub marked_released : (ps : List Piece) (leaving pending : Bool) → IsMarked ps leaving pending → IsMarked (merged (map released ps)) leaving false
-marked_released ps leaving pending m = record {
-  none_leaving = λ e.
-      let h = m.none_leaving e in
-      let a = leaving_released ps in
-      let b = count_merged leaving_kind refl (map released ps) in
-      omega (arith, h, a, b);
-  none_pending = λ e.
-      let a = none_mapped pending_kind released released_stays ps in
-      let b = count_merged pending_kind refl (map released ps) in
-      omega (arith, a, b);
-}
+marked_released ps leaving pending m =
+    let a = count_released leaving_kind refl ps in
+    let b = count_released pending_kind refl ps in
+    let same : counted is_leaving (merged (map released ps)) ≡ counted is_leaving ps = omega (arith, a) in
+    let none : counted is_pending (merged (map released ps)) ≡ 0 = omega (arith, b) in
+    record {
+      some_leaving = m.some_leaving ∙ ap (nat_lt 0) (sym same);
+      some_pending = ap (nat_lt 0) (sym none);
+    }
+
+-- where a mark is false there is none
+pub none_marked : (n : ℕ) (mark : Bool) → mark ≡ nat_lt 0 n → mark ≡ false → n ≡ 0
+none_marked n mark m e = let l = ltb-false 0 n (sym m ∙ e) in omega (arith, l)
 
 -- where there is none, all stays
 
@@ -207,5 +127,5 @@ released_none_mapped (p ∷ ps) h =
     let n = none_first (is_pending p) (counted is_pending ps) h in
     rw (released_same p n.0) (ap (λ (l : List Piece). p ∷ l) (released_none_mapped ps n.1))
 
-pub released_none : (ps : List Piece) → AreApart ps → counted is_pending ps ≡ 0 → merged (map released ps) ≡ ps
+pub released_none : (ps : List Piece) → AreMerged ps → counted is_pending ps ≡ 0 → merged (map released ps) ≡ ps
 released_none ps a h = subst (λ (l : List Piece). merged l ≡ ps) (sym (released_none_mapped ps h)) (merged_same ps a)

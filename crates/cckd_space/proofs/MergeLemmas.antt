@@ -5,8 +5,8 @@ use Rattle.std.proofs.lemmas.List.{set_split, get_or_read, drop_more, drop_all, 
 use Rattle.cckd_base.specs.declared.space.Owner.TheVariants.{Nobody}
 use Rattle.cckd_space.specs.declared.piece.Kind.TheVariants.{Used}
 use Rattle.cckd_space.specs.declared.piece.Piece.{Piece}
-use Rattle.cckd_space.specs.Pieces.{is_free, free_piece, freed, joined, merged, replaced, IsApart, IsLaid}
-use Rattle.cckd_space.specs.Inside.{size_of, AreApart}
+use Rattle.cckd_space.specs.Pieces.{is_free, free_piece, freed, joined, merged, replaced, NotBothFree, IsLaid}
+use Rattle.cckd_space.specs.Inside.{size_of, AreMerged}
 use Rattle.cckd_space.proofs.FirstLemmas.{is_first, replaced_at}
 
 pub size_of-joined : (p : Piece) (qs : List Piece) → size_of (joined p qs) ≡ p.size + size_of qs
@@ -75,23 +75,23 @@ step old now new at n kept result m e b w l f j =
           ∙ sym (ap merged (drop_more old at d (omega (arith, m.same, m.before))))));
     }
 
-joined_apart : (p : Piece) (ps : List Piece) → IsApart p ps → joined p ps ≡ p ∷ ps
-joined_apart p [] h = refl
-joined_apart p (q ∷ qs) h = rw h refl
+joined_same : (p : Piece) (ps : List Piece) → NotBothFree p ps → joined p ps ≡ p ∷ ps
+joined_same p [] h = refl
+joined_same p (q ∷ qs) h = rw h refl
 
 -- what is apart stays as it is
-pub merged_same : (ps : List Piece) → AreApart ps → merged ps ≡ ps
+pub merged_same : (ps : List Piece) → AreMerged ps → merged ps ≡ ps
 merged_same [] h = refl
-merged_same (p ∷ ps) h = ap (joined p) (merged_same ps h.1) ∙ joined_apart p ps h.0
+merged_same (p ∷ ps) h = ap (joined p) (merged_same ps h.1) ∙ joined_same p ps h.0
 
-apart_front : (xs : List Piece) (p : Piece) (ys : List Piece) → AreApart (xs ++ p ∷ ys) → AreApart (xs ++ p ∷ [])
-apart_front [] p ys h = (tt, tt)
-apart_front (x ∷ []) p ys h = (h.0, apart_front [] p ys h.1)
-apart_front (x ∷ z ∷ zs) p ys h = (h.0, apart_front (z ∷ zs) p ys h.1)
+merged_front : (xs : List Piece) (p : Piece) (ys : List Piece) → AreMerged (xs ++ p ∷ ys) → AreMerged (xs ++ p ∷ [])
+merged_front [] p ys h = (tt, tt)
+merged_front (x ∷ []) p ys h = (h.0, merged_front [] p ys h.1)
+merged_front (x ∷ z ∷ zs) p ys h = (h.0, merged_front (z ∷ zs) p ys h.1)
 
-apart_back : (xs ys : List Piece) → AreApart (xs ++ ys) → AreApart ys
-apart_back [] ys h = h
-apart_back (x ∷ xs) ys h = apart_back xs ys h.1
+merged_back : (xs ys : List Piece) → AreMerged (xs ++ ys) → AreMerged ys
+merged_back [] ys h = h
+merged_back (x ∷ xs) ys h = merged_back xs ys h.1
 
 -- a joined list begins as Free as its first piece was
 pub joined_over : (f q : Piece) (ys : List Piece) → (is_free f && is_free q) ≡ false → joined f (joined q ys) ≡ f ∷ joined q ys
@@ -111,10 +111,10 @@ joined_over f q (y ∷ ys) h = by (is_free q && is_free y) refl
     by false e = rw e (rw h refl)
 
 -- a merge around one piece
-merged_around : (xs : List Piece) (q p : Piece) (ys : List Piece) → AreApart (xs ++ q ∷ []) → AreApart ys → merged (xs ++ q ∷ p ∷ ys) ≡ xs ++ joined q (joined p ys)
+merged_around : (xs : List Piece) (q p : Piece) (ys : List Piece) → AreMerged (xs ++ q ∷ []) → AreMerged ys → merged (xs ++ q ∷ p ∷ ys) ≡ xs ++ joined q (joined p ys)
 merged_around [] q p ys h a = ap (λ (l : List Piece). joined q (joined p l)) (merged_same ys a)
 merged_around (x ∷ []) q p ys h a = ap (joined x) (merged_around [] q p ys h.1 a) ∙ joined_over x q (joined p ys) h.0
-merged_around (x ∷ z ∷ zs) q p ys h a = ap (joined x) (merged_around (z ∷ zs) q p ys h.1 a) ∙ joined_apart x (z ∷ (zs ++ joined q (joined p ys))) h.0
+merged_around (x ∷ z ∷ zs) q p ys h a = ap (joined x) (merged_around (z ∷ zs) q p ys h.1 a) ∙ joined_same x (z ∷ (zs ++ joined q (joined p ys))) h.0
 
 -- once a piece is Free, and joined with the next
 pub record IsFreedAt (old now : List Piece) (at : ℕ) (d : Piece) : Type 0 where
@@ -130,29 +130,29 @@ freed_at old now at p w d l r f n =
 split_here : (xs : List Piece) (at : ℕ) (d : Piece) → at < length xs → xs ≡ take at xs ++ get_or xs at d ∷ drop (at + 1) xs
 split_here xs at d l = sym (take-append-drop at xs) ∙ ap (λ (ys : List Piece). take at xs ++ ys) (drop_more xs at d l)
 
-pub freed_first : (old now : List Piece) (at : ℕ) (d : Piece) → AreApart old → IsFreedAt old now at d → at ≡ 0 → now ≡ merged (take at old ++ freed (get_or old at d) ∷ drop (at + 1) old)
+pub freed_first : (old now : List Piece) (at : ℕ) (d : Piece) → AreMerged old → IsFreedAt old now at d → at ≡ 0 → now ≡ merged (take at old ++ freed (get_or old at d) ∷ drop (at + 1) old)
 freed_first old now at d a f z =
-    let back : AreApart (drop (at + 1) old) = apart_back (take (at + 1) old) (drop (at + 1) old) (subst AreApart (sym (take-append-drop (at + 1) old)) a) in
+    let back : AreMerged (drop (at + 1) old) = merged_back (take (at + 1) old) (drop (at + 1) old) (subst AreMerged (sym (take-append-drop (at + 1) old)) a) in
     let none : take at old ≡ [] = ap (λ (n : ℕ). take n old) z in
     f.is ∙ (ap (λ (l : List Piece). l ++ joined (freed (get_or old at d)) (drop (at + 1) old)) none
     ∙ (sym (ap (joined (freed (get_or old at d))) (merged_same (drop (at + 1) old) back))
     ∙ sym (ap (λ (l : List Piece). merged (l ++ freed (get_or old at d) ∷ drop (at + 1) old)) none)))
 
 -- a merge once a piece is Free
-pub merged_freed : (old : List Piece) (at before : ℕ) (d : Piece) → AreApart old → at < length old → before + 1 ≡ at
+pub merged_freed : (old : List Piece) (at before : ℕ) (d : Piece) → AreMerged old → at < length old → before + 1 ≡ at
     → merged (take at old ++ freed (get_or old at d) ∷ drop (at + 1) old) ≡ take before old ++ joined (get_or old before d) (joined (freed (get_or old at d)) (drop (at + 1) old))
 merged_freed old at before d a l e =
     let x = freed (get_or old at d) in
     let ys = drop (at + 1) old in
     let q = get_or old before d in
     let xs = take before old in
-    let back : AreApart ys = apart_back (take (at + 1) old) ys (subst AreApart (sym (take-append-drop (at + 1) old)) a) in
-    let front : AreApart (xs ++ q ∷ []) = apart_front xs q (drop (before + 1) old) (subst AreApart (split_here old before d (omega arith)) a) in
+    let back : AreMerged ys = merged_back (take (at + 1) old) ys (subst AreMerged (sym (take-append-drop (at + 1) old)) a) in
+    let front : AreMerged (xs ++ q ∷ []) = merged_front xs q (drop (before + 1) old) (subst AreMerged (split_here old before d (omega arith)) a) in
     let fore : take at old ≡ xs ++ q ∷ [] = ap (λ (m : ℕ). take m old) (sym e) ∙ take_more old before d (omega arith) in
     let whole : take at old ++ x ∷ ys ≡ xs ++ q ∷ x ∷ ys = ap (λ (l : List Piece). l ++ x ∷ ys) fore ∙ append_assoc xs (q ∷ []) (x ∷ ys) in
     ap merged whole ∙ merged_around xs q x ys front back
 
-pub freed_later : (old now new : List Piece) (at before : ℕ) (d : Piece) → AreApart old → IsFreedAt old now at d → before + 1 ≡ at
+pub freed_later : (old now new : List Piece) (at before : ℕ) (d : Piece) → AreMerged old → IsFreedAt old now at d → before + 1 ≡ at
     → new ≡ take before now ++ joined (get_or now before d) (drop (before + 1) now) → new ≡ merged (take at old ++ freed (get_or old at d) ∷ drop (at + 1) old)
 freed_later old now new at before d a f e n =
     let x = freed (get_or old at d) in
@@ -225,9 +225,9 @@ length_freed old now at d f =
     let e = joined_some (freed (get_or old at d)) (drop (at + 1) old) in
     omega (arith, a, b, c, e)
 
-pub laid_apart : (at : ℕ) (ps : List Piece) (end : ℕ) → IsLaid at ps end → AreApart ps
-laid_apart at [] end h = tt
-laid_apart at (p ∷ ps) end h = (h.1, laid_apart (at + p.size) ps end h.2)
+pub laid_are_merged : (at : ℕ) (ps : List Piece) (end : ℕ) → IsLaid at ps end → AreMerged ps
+laid_are_merged at [] end h = tt
+laid_are_merged at (p ∷ ps) end h = (h.1, laid_are_merged (at + p.size) ps end h.2)
 
 -- the list with a piece freed, by the piece's index
 pub freed_items : (test : Piece → Bool) (xs : List Piece) (at : ℕ) (d : Piece) → position test xs ≡ Some at

@@ -1,15 +1,15 @@
 -- A search in a part of the list, outside which nothing passes.
 use Rattle.std.proofs.Common.{◌≡◌, ℕ, max, zero, suc, ◌+◌, ◌-◌, ◌<◌, ◌≤◌, nat_le, Bool, true, false, cond, ◌&&◌, ◌==◌, List, [], ◌∷◌, length, take, drop, get_or, Option, Some, None, refl, sym, ◌∙◌, ap, subst, arith, add-one, position, nat_lt, IsSome, inl, inr}
 use Rattle.std.specs.List.{position_or_len}
-use Rattle.std.proofs.lemmas.Bool.{lt-ltb, le-ltb, cases_lt, ltb-false, and_parts, leb-true, le-leb, eqb-true, false_from_ne_true}
+use Rattle.std.proofs.lemmas.Bool.{lt-ltb, le-ltb, cases_lt, ltb-false, and_parts, leb-true, le-leb, lt-leb, eqb-true, false_from_ne_true}
 use Rattle.std.proofs.lemmas.List.{get_or-take, get_or-drop, length-take, length-drop}
 use Rattle.cckd_base.specs.declared.space.Owner.TheVariants.{Nobody}
 use Rattle.cckd_space.specs.declared.piece.Kind.TheVariants.{Used}
 use Rattle.cckd_space.specs.declared.piece.Piece.{Piece}
-use Rattle.cckd_space.specs.Pieces.{is_free, is_roomy, is_roomy_from, is_reserved_at, is_used_at, used_kind, reserved_kind, has_room, has_room_below, aligned_up, piece_end, first, IsLaid}
+use Rattle.cckd_space.specs.Pieces.{begins_by, last, is_free, is_roomy, is_roomy_from, is_reserved_at, is_used_at, used_kind, reserved_kind, has_room, has_room_below, aligned_up, piece_end, first, IsLaid}
 use Rattle.cckd_space.specs.Inside.{IsShut, IsInOrder, StartsAt, is_open}
 use Rattle.cckd_space.proofs.LaidLemmas.{room_facts}
-use Rattle.cckd_space.proofs.FirstLemmas.{IsFirstAt, is_first, none_passes}
+use Rattle.cckd_space.proofs.FirstLemmas.{IsFirstAt, first_at, is_first, none_passes}
 
 pub shut_at : (n : ℕ) (ps : List Piece) (k : ℕ) (d : Piece) → IsShut n ps → k < n → is_open (get_or ps k d) ≡ false
 shut_at zero ps k d h l = absurd (omega arith)
@@ -210,6 +210,48 @@ found_at test pos xs at d only order s there = by (position test xs) refl
           ]
         ] in
         subst (λ (n : ℕ). IsFirstAt test xs n d) same f
+
+-- what stands where pieces at a place begin, and passes, is the first that does
+pub first_there : (test : Piece → Bool) (pos : ℕ) (xs : List Piece) (at : ℕ) (d : Piece) → ((p : Piece) → test p ≡ true → p.pos ≡ pos) → StartsAt pos xs at → at < length xs → test (get_or xs at d) ≡ true
+    → first test xs ≡ Some (get_or xs at d)
+first_there test pos xs at d only s within here = first_at test xs at d (record {
+  within = within;
+  here = here;
+  before = λ k l. false_from_ne_true (test (get_or xs k d)) (λ e. let a = s.before k d l in omega (arith, a, only (get_or xs k d) e));
+})
+
+-- and where it doesn't pass, or there is none, none does
+pub none_there : (test : Piece → Bool) (pos : ℕ) (xs : List Piece) (at : ℕ) (d : Piece) → ((p : Piece) → test p ≡ true → p.pos ≡ pos) → IsInOrder xs → StartsAt pos xs at → (at < length xs → test (get_or xs at d) ≡ false)
+    → first test xs ≡ None
+none_there test pos xs at d only order s not = by (first test xs) refl
+  where
+    by : (o : Option Piece) → first test xs ≡ o → first test xs ≡ None
+    by None e = e
+    by (Some q) e =
+        let f = found_at test pos xs at d only order s (rw e refl) in
+        absurd (let g : true ≡ false = sym f.here ∙ not f.within in cc)
+
+-- none of the pieces passes
+last_none : (test : Piece → Bool) (xs : List Piece) (d : Piece) → ((k : ℕ) → k < length xs → test (get_or xs k d) ≡ false) → last test xs ≡ None
+last_none test [] d h = refl
+last_none test (x ∷ xs) d h = rw (last_none test xs d (λ k l. h (suc k) (omega arith)), h 0 (omega arith)) refl
+
+-- the piece behind which none passes
+last_at : (test : Piece → Bool) (xs : List Piece) (i : ℕ) (d : Piece) → i < length xs → test (get_or xs i d) ≡ true → ((k : ℕ) → i < k → k < length xs → test (get_or xs k d) ≡ false) → last test xs ≡ Some (get_or xs i d)
+last_at test [] i d l t h = absurd (omega arith)
+last_at test (x ∷ xs) zero d l t h = rw (last_none test xs d (λ k m. h (suc k) (omega arith) (omega arith)), t) refl
+last_at test (x ∷ xs) (suc i) d l t h = rw (last_at test xs i d (omega arith) t (λ k a b. h (suc k) (omega arith) (omega arith))) refl
+
+-- the last piece that begins at or before a place stands before those that begin behind it
+pub last_begun : (pos : ℕ) (xs : List Piece) (n : ℕ) (d : Piece) → StartsAt (pos + 1) xs n → 0 < n → last (begins_by pos) xs ≡ Some (get_or xs (n - 1) d)
+last_begun pos xs n d s some =
+    let w = s.within in
+    last_at (begins_by pos) xs (n - 1) d (omega (arith, w))
+    (let a = s.before (n - 1) d (omega arith) in le-leb (get_or xs (n - 1) d).pos pos (omega (arith, a)))
+    (λ k a l. let b = s.behind k d (omega arith) l in lt-leb (get_or xs k d).pos pos (omega (arith, b)))
+
+pub none_begun : (pos : ℕ) (xs : List Piece) (n : ℕ) (d : Piece) → StartsAt (pos + 1) xs n → n ≡ 0 → last (begins_by pos) xs ≡ None
+none_begun pos xs n d s none = last_none (begins_by pos) xs d (λ k l. let b = s.behind k d (omega arith) l in lt-leb (get_or xs k d).pos pos (omega (arith, b)))
 
 pub reserved_there : (pos : ℕ) (p : Piece) → is_reserved_at pos p ≡ true → p.pos ≡ pos
 reserved_there pos p e = eqb-true p.pos pos (and_parts (reserved_kind p.kind) (p.pos == pos) e).1

@@ -4,12 +4,13 @@ use Rattle.std.specs.List.{filter}
 use Rattle.std.proofs.lemmas.Bool.{and_parts, cond_both, le-ltb, lt-ltb}
 use Rattle.std.proofs.lemmas.List.{append-nil}
 use Rattle.std.proofs.lemmas.List.Elements.{filter-append}
+use Rattle.cckd_base.specs.declared.space.Extent.{Extent}
 use Rattle.cckd_base.specs.declared.space.Owner.{Owner}
 use Rattle.cckd_space.specs.declared.piece.Kind.{Kind}
 use Rattle.cckd_space.specs.declared.piece.Kind.TheVariants.{Used, Free, Reserved, Leaving, Pending}
 use Rattle.cckd_space.specs.declared.piece.Piece.{Piece}
-use Rattle.cckd_space.specs.Pieces.{is_free, is_used, used_kind, free_kind, reserved_kind, is_reserved_at, is_used_at, first, replaced, settled, IsLaid, free_piece, free_run, reserved_piece, reserved_in, freed, left, retired, retired_as, released, released_as, joined, merged, has_room, has_room_below, aligned_up, piece_end, trimmed, used_end, end_place, cut}
-use Rattle.cckd_space.specs.Plan.{first_fit, reserved_at, with_reserved}
+use Rattle.cckd_space.specs.Pieces.{AreUsedOrFree, free_runs, pieces_of, used_piece, is_free, is_used, used_kind, free_kind, reserved_kind, is_reserved_at, is_used_at, first, replaced, settled, IsLaid, free_piece, free_run, reserved_piece, reserved_in, freed, left, retired, retired_as, released, released_as, joined, merged, has_room, has_room_below, aligned_up, piece_end, trimmed, used_end, end_place, cut}
+use Rattle.cckd_space.specs.Plan.{first_fit, reserved_by, with_reserved}
 use Rattle.cckd_space.proofs.CallerLemmas.{first_has, laid_has}
 use Rattle.cckd_space.proofs.LaidLemmas.{below_room, room_facts}
 
@@ -90,7 +91,7 @@ used_map f same (p ∷ ps) =
 pub used_placed : (need : ℕ) (ps : List Piece) → used_of (with_reserved need ps) ≡ used_of ps
 used_placed need ps = by (first_fit need ps) refl
   where
-    by : (o : Option ℕ) → first_fit need ps ≡ o → used_of (reserved_at o need ps) ≡ used_of ps
+    by : (o : Option ℕ) → first_fit need ps ≡ o → used_of (reserved_by o need ps) ≡ used_of ps
     by None e =
         used_end_cut ps (free_run (used_end ps) (end_place ps) ++ reserved_piece (end_place ps) need ∷ [])
         (filter-append is_used (free_run (used_end ps) (end_place ps)) (reserved_piece (end_place ps) need ∷ []) ∙ ap (λ (l : List Piece). l ++ []) (run_unused (used_end ps) (end_place ps)))
@@ -190,3 +191,36 @@ settled_from pos len owner at (q ∷ qs) end p l e = by (is_reserved_at pos q) r
 pub used_settled : (pos len : ℕ) (owner : Owner) (ps : List Piece) (end : ℕ) (p : Piece) → IsLaid 0 ps end → first (is_reserved_at pos) ps ≡ Some p
     → used_of (replaced (is_reserved_at pos) (λ q. settled len owner q ∷ []) ps) ≡ with_piece (settled len owner p) (used_of ps)
 used_settled pos len owner ps end p l e = settled_from pos len owner 0 ps end p l e
+
+-- The pieces of a file whose used spaces are given.
+
+cond_run : (test : Piece → Bool) (from to : ℕ) → ((n m : ℕ) → test (free_piece n m) ≡ true) → filter test (free_run from to) ≡ free_run from to
+cond_run test from to all = cond_both (nat_lt from to) (free_piece from (to - from) ∷ []) [] (λ (l : List Piece). filter test l ≡ l) (λ e. rw (all from (to - from)) refl) (λ e. refl)
+
+-- the used ones are the given spaces
+pub used_of_pieces : (at : ℕ) (es : List Extent) (size : ℕ) → used_of (pieces_of at es size) ≡ map used_piece es
+used_of_pieces at [] size = run_unused at size
+used_of_pieces at (e ∷ es) size =
+    filter-append is_used (free_run at e.pos) (used_piece e ∷ pieces_of (e.pos + e.size) es size)
+    ∙ (ap (λ (l : List Piece). l ++ (used_piece e ∷ used_of (pieces_of (e.pos + e.size) es size))) (run_unused at e.pos)
+    ∙ ap (λ (l : List Piece). used_piece e ∷ l) (used_of_pieces (e.pos + e.size) es size))
+
+-- the free ones are the free runs of the file
+pub free_of_pieces : (at : ℕ) (es : List Extent) (size : ℕ) → filter is_free (pieces_of at es size) ≡ free_runs at es size
+free_of_pieces at [] size = cond_run is_free at size (λ n m. refl)
+free_of_pieces at (e ∷ es) size =
+    filter-append is_free (free_run at e.pos) (used_piece e ∷ pieces_of (e.pos + e.size) es size)
+    ∙ (ap (λ (l : List Piece). l ++ filter is_free (pieces_of (e.pos + e.size) es size)) (cond_run is_free at e.pos (λ n m. refl))
+    ∙ ap (λ (l : List Piece). free_run at e.pos ++ l) (free_of_pieces (e.pos + e.size) es size))
+
+both_append : (xs ys : List Piece) → AreUsedOrFree xs → AreUsedOrFree ys → AreUsedOrFree (xs ++ ys)
+both_append [] ys a b = b
+both_append (x ∷ xs) ys a b = (a.0, both_append xs ys a.1 b)
+
+run_both : (from to : ℕ) → AreUsedOrFree (free_run from to)
+run_both from to = cond_both (nat_lt from to) (free_piece from (to - from) ∷ []) [] AreUsedOrFree (λ e. (refl, tt)) (λ e. tt)
+
+-- and there are no others
+pub pieces_both : (at : ℕ) (es : List Extent) (size : ℕ) → AreUsedOrFree (pieces_of at es size)
+pieces_both at [] size = run_both at size
+pieces_both at (e ∷ es) size = both_append (free_run at e.pos) (used_piece e ∷ pieces_of (e.pos + e.size) es size) (run_both at e.pos) (refl, pieces_both (e.pos + e.size) es size)

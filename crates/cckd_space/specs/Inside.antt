@@ -1,9 +1,7 @@
 -- What always holds of the fields of a `Space`, and words for its parts.
-use Rattle.std.specs.Prelude.{◌≡◌, ℕ, zero, suc, ◌+◌, ◌<◌, ◌≤◌, Bool, true, false, List, [], ◌∷◌, ◌++◌, length, slice_index_or}
-use Rattle.cckd_space.specs.declared.piece.Kind.{Kind}
-use Rattle.cckd_space.specs.declared.piece.Kind.TheVariants.{Used, Free, Reserved, Leaving, Pending}
+use Rattle.std.specs.Prelude.{◌≡◌, ℕ, zero, suc, ◌+◌, ◌<◌, ◌≤◌, nat_lt, Bool, false, List, [], ◌∷◌, ◌++◌, length, slice_index_or}
 use Rattle.cckd_space.specs.declared.piece.Piece.{Piece}
-use Rattle.cckd_space.specs.Pieces.{IsApart, IsLaid, counted, has_room, largest, piece_end}
+use Rattle.cckd_space.specs.Pieces.{NotBothFree, IsLaid, counted, is_leaving, is_pending, has_room, largest, piece_end}
 
 -- a Free piece in which 8 bytes fit, the least that may be asked for
 abbrev pub is_open : Piece → Bool
@@ -15,37 +13,13 @@ IsShut zero ps = Unit {0}
 IsShut (suc n) [] = ⊥
 IsShut (suc n) (p ∷ ps) = (is_open p ≡ false) × IsShut n ps
 
--- of the five kinds, the one whose replacing entry is staged
-abbrev pub leaving_kind : Kind → Bool
-leaving_kind Leaving = true
-leaving_kind Used = false
-leaving_kind Free = false
-leaving_kind Reserved = false
-leaving_kind Pending = false
-
--- the one whose replacing entry was written, and isn't synced
-abbrev pub pending_kind : Kind → Bool
-pending_kind Pending = true
-pending_kind Used = false
-pending_kind Free = false
-pending_kind Reserved = false
-pending_kind Leaving = false
-
--- a Leaving piece
-abbrev pub is_leaving : Piece → Bool
-is_leaving p = leaving_kind p.kind
-
--- a Pending piece
-abbrev pub is_pending : Piece → Bool
-is_pending p = pending_kind p.kind
-
--- where a mark is false, there is no Leaving piece, or no Pending one
+-- one mark says whether there is a Leaving piece, the other whether there is a Pending one
 pub record IsMarked (pieces : List Piece) (leaving pending : Bool) : Type 0 where
-  pub none_leaving : leaving ≡ false → counted is_leaving pieces ≡ 0
-  pub none_pending : pending ≡ false → counted is_pending pieces ≡ 0
+  pub some_leaving : leaving ≡ nat_lt 0 (counted is_leaving pieces)
+  pub some_pending : pending ≡ nat_lt 0 (counted is_pending pieces)
 
 -- the pieces cover the file, there are no more than the slots, and there is memory for as many as the slots;
--- no piece before an index offers 8 bytes, none offers more than a number, and the marks of leaving and pending pieces are true
+-- no piece before an index offers 8 bytes, none offers more than a number, and the marks are true of its Leaving and Pending pieces
 pub record IsKept (pieces : List Piece) (size slots capacity solid most : ℕ) (leaving pending : Bool) : Type 0 where
   pub laid : IsLaid 0 pieces size
   pub fewer : length pieces ≤ slots
@@ -66,9 +40,9 @@ pub record StartsAt (pos : ℕ) (pieces : List Piece) (at : ℕ) : Type 0 where
   pub behind : (k : ℕ) (d : Piece) → at ≤ k → k < length pieces → pos ≤ (slice_index_or pieces k d).pos
 
 -- no two neighbours are Free
-abbrev pub AreApart : List Piece → Type 0
-AreApart [] = Unit {0}
-AreApart (p ∷ ps) = IsApart p ps × AreApart ps
+abbrev pub AreMerged : List Piece → Type 0
+AreMerged [] = Unit {0}
+AreMerged (p ∷ ps) = NotBothFree p ps × AreMerged ps
 
 -- the bytes of all pieces
 abbrev pub size_of : List Piece → ℕ

@@ -1,5 +1,6 @@
 -- A file's bytes as a list of pieces in order of position, and what each act makes of the list.
-use Rattle.std.specs.Prelude.{◌≡◌, ℕ, ◌+◌, ◌-◌, ◌*◌, ◌/◌, ◌<◌, ◌≤◌, min, max, Bool, true, false, ◌&&◌, ◌||◌, nat_le, nat_lt, ◌==◌, if◌then◌else◌, List, [], ◌∷◌, ◌++◌, Option, None, Some}
+use Rattle.std.specs.Prelude.{◌≡◌, ℕ, ◌+◌, ◌-◌, ◌*◌, ◌/◌, ◌<◌, ◌≤◌, min, max, Bool, true, false, ◌&&◌, ◌||◌, nat_le, nat_lt, ◌==◌, not, ◌⊎◌, if◌then◌else◌, List, [], ◌∷◌, ◌++◌, Option, None, Some}
+use Rattle.std.specs.Option.{option_or}
 use Rattle.cckd_base.specs.declared.space.Owner.{Owner}
 use Rattle.cckd_base.specs.declared.space.Owner.TheVariants.{Nobody}
 use Rattle.cckd_base.specs.declared.space.Extent.{Extent}
@@ -31,6 +32,26 @@ reserved_kind Free = false
 reserved_kind Leaving = false
 reserved_kind Pending = false
 
+-- the one whose replacing entry is staged
+abbrev pub leaving_kind : Kind → Bool
+leaving_kind Leaving = true
+leaving_kind Used = false
+leaving_kind Free = false
+leaving_kind Reserved = false
+leaving_kind Pending = false
+
+-- the one whose replacing entry was written, and isn't synced
+abbrev pub pending_kind : Kind → Bool
+pending_kind Pending = true
+pending_kind Used = false
+pending_kind Free = false
+pending_kind Reserved = false
+pending_kind Leaving = false
+
+-- each but Free
+abbrev pub taken_kind : Kind → Bool
+taken_kind k = not (free_kind k)
+
 -- a Free piece
 abbrev pub is_free : Piece → Bool
 is_free p = free_kind p.kind
@@ -38,6 +59,18 @@ is_free p = free_kind p.kind
 -- a Used piece
 abbrev pub is_used : Piece → Bool
 is_used p = used_kind p.kind
+
+-- a Leaving piece
+abbrev pub is_leaving : Piece → Bool
+is_leaving p = leaving_kind p.kind
+
+-- a Pending piece
+abbrev pub is_pending : Piece → Bool
+is_pending p = pending_kind p.kind
+
+-- a piece that isn't Free
+abbrev pub is_taken : Piece → Bool
+is_taken p = taken_kind p.kind
 
 -- a Free piece of at least 8 bytes
 abbrev pub is_roomy : Piece → Bool
@@ -82,6 +115,20 @@ has_room need p = is_free p && nat_le (aligned_up p.pos + need) (piece_end p)
 -- and they end at or below a place
 abbrev pub has_room_below : ℕ → ℕ → Piece → Bool
 has_room_below need before p = has_room need p && nat_le (aligned_up p.pos + need) before
+
+-- a piece is in the list
+abbrev pub Has : Piece → List Piece → Type 0
+Has p [] = ⊥
+Has p (q ∷ qs) = (q ≡ p) ⊎ Has p qs
+
+-- a piece begins at or before a place
+abbrev pub begins_by : ℕ → Piece → Bool
+begins_by pos p = nat_le p.pos pos
+
+-- the last piece that passes a test
+abbrev pub last : (Piece → Bool) → List Piece → Option Piece
+last test [] = None
+last test (p ∷ ps) = option_or (last test ps) (if test p then Some p else None)
 
 -- the first piece that passes a test
 abbrev pub first : (Piece → Bool) → List Piece → Option Piece
@@ -209,10 +256,10 @@ abbrev pub pieces_of : ℕ → List Extent → ℕ → List Piece
 pieces_of at [] size = free_run at size
 pieces_of at (e ∷ es) size = free_run at e.pos ++ used_piece e ∷ pieces_of (e.pos + e.size) es size
 
--- the spaces are in order, apart from each other and inside the file, and each is in use from its first byte on
-abbrev pub AreUsed : ℕ → List Extent → ℕ → Type 0
-AreUsed at [] size = at ≤ size
-AreUsed at (e ∷ es) size = (at ≤ e.pos) × (1 ≤ e.len) × (e.len ≤ e.size) × AreUsed (e.pos + e.size) es size
+-- the free runs of a file from a place on, of which these spaces are used
+abbrev pub free_runs : ℕ → List Extent → ℕ → List Piece
+free_runs at [] size = free_run at size
+free_runs at (e ∷ es) size = free_run at e.pos ++ free_runs (e.pos + e.size) es size
 
 -- a piece of a kind is well formed: a Used one is in use from its first byte on, any other belongs to Nobody and is in use as a whole
 abbrev pub IsFormedAs : Kind → Piece → Type 0
@@ -229,9 +276,9 @@ pub record IsPieceAt (at : ℕ) (p : Piece) : Type 0 where
   pub formed : IsFormedAs p.kind p
 
 -- a piece before a list isn't Free beside another Free one
-abbrev pub IsApart : Piece → List Piece → Type 0
-IsApart p [] = Unit {0}
-IsApart p (q ∷ qs) = (is_free p && is_free q) ≡ false
+abbrev pub NotBothFree : Piece → List Piece → Type 0
+NotBothFree p [] = Unit {0}
+NotBothFree p (q ∷ qs) = (is_free p && is_free q) ≡ false
 
 -- each piece is Used or Free, so nothing is under way
 abbrev pub AreUsedOrFree : List Piece → Type 0
@@ -241,4 +288,4 @@ AreUsedOrFree (p ∷ ps) = ((is_used p || is_free p) ≡ true) × AreUsedOrFree 
 -- the pieces cover the bytes from one place up to another, each byte once, and no two Free ones are neighbours
 abbrev pub IsLaid : ℕ → List Piece → ℕ → Type 0
 IsLaid at [] end = at ≡ end
-IsLaid at (p ∷ ps) end = IsPieceAt at p × IsApart p ps × IsLaid (at + p.size) ps end
+IsLaid at (p ∷ ps) end = IsPieceAt at p × NotBothFree p ps × IsLaid (at + p.size) ps end

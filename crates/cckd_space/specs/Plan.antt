@@ -1,11 +1,12 @@
 -- What callers see of a `Space`, and what each call makes of it.
-use Rattle.std.specs.Prelude.{◌≡◌, ℕ, ◌+◌, ◌-◌, ◌<◌, ◌≤◌, ◌%◌, Bool, ◌&&◌, nat_le, nat_lt, length, List, Option, None, Some}
+use Rattle.std.specs.Prelude.{◌≡◌, ℕ, ◌+◌, ◌-◌, ◌<◌, ◌≤◌, ◌%◌, Bool, false, ◌&&◌, nat_le, nat_lt, length, List, Option, None, Some}
 use Rattle.std.specs.Option.{option_map, unwrap_or}
+use Rattle.cckd_base.specs.Image.{ShareNoByte}
 use Rattle.cckd_base.specs.declared.space.Full.{Full}
 use Rattle.cckd_base.specs.declared.space.Extent.{Extent}
 use Rattle.cckd_space.specs.declared.piece.Piece.{Piece}
 use Rattle.cckd_space.specs.declared.piece.Totals.{Totals}
-use Rattle.cckd_space.specs.Pieces.{first, replaced, has_room, has_room_below, reserved_in, appended, end_place, aligned_up, largest, AreUsedOrFree, IsLaid, piece_end, is_free, is_used, is_roomy, is_roomy_from, pieces_of, roomy_len, used_len, greatest, summed, counted}
+use Rattle.cckd_space.specs.Pieces.{Has, first, replaced, has_room, has_room_below, reserved_in, appended, end_place, aligned_up, largest, AreUsedOrFree, IsLaid, piece_end, is_free, is_used, is_roomy, is_roomy_from, pieces_of, roomy_len, used_len, greatest, summed, counted}
 
 -- the pieces of a file, its size, the size that it may grow to, and how many pieces may still be added
 pub record Plan : Type 0 where
@@ -17,6 +18,10 @@ pub record Plan : Type 0 where
 -- the pieces cover the file, each byte once, and no two Free ones are neighbours
 pub record IsSound (plan : Plan) : Type 0 where
   pub laid : IsLaid 0 plan.pieces plan.size
+
+-- so many bytes from a place share none with a piece that isn't Free
+pub record IsClear (pieces : List Piece) (pos need : ℕ) : Type 0 where
+  pub each : (p : Piece) → Has p pieces → is_free p ≡ false → ShareNoByte p.pos p.size pos need
 
 -- a byte of the file lies in a piece
 abbrev pub has_byte : ℕ → Piece → Bool
@@ -62,13 +67,13 @@ abbrev pub place_of : ℕ → List Piece → ℕ
 place_of need ps = unwrap_or (first_fit need ps) (end_place ps)
 
 -- the list with so many bytes reserved: where they fit, or else at the end
-abbrev pub reserved_at : Option ℕ → ℕ → List Piece → List Piece
-reserved_at (Some at) need ps = replaced (has_room need) (reserved_in need) ps
-reserved_at None need ps = appended need ps
+abbrev pub reserved_by : Option ℕ → ℕ → List Piece → List Piece
+reserved_by (Some at) need ps = replaced (has_room need) (reserved_in need) ps
+reserved_by None need ps = appended need ps
 
 -- the list with so many bytes reserved at the first fit, or else at the end
 abbrev pub with_reserved : ℕ → List Piece → List Piece
-with_reserved need ps = reserved_at (first_fit need ps) need ps
+with_reserved need ps = reserved_by (first_fit need ps) need ps
 
 -- the size of the file once so many bytes are reserved: it grows where they fit nowhere
 abbrev pub size_at : Option ℕ → ℕ → Plan → ℕ

@@ -1,6 +1,7 @@
 //! A `Space` and the plain program, to which the same calls are made.
 ghost use Rattle.std.specs.Prelude.{◌≡◌, ◌≤◌, IfSome, Some, if◌then◌else◌};
-ghost use Rattle.cckd_space.specs.Pieces.{AreUsed, first, is_reserved_at, is_used_at};
+ghost use Rattle.cckd_base.specs.Survey.{StandApart};
+ghost use Rattle.cckd_space.specs.Pieces.{first, is_reserved_at, is_used_at};
 ghost use Rattle.cckd_space.specs.Plan.{IsNeed};
 
 use crate::piece::Piece;
@@ -20,7 +21,7 @@ pub(crate) struct Pair {
 }
 
 fn started(alloc: Global, used: &[Extent], size: u32, limit: u32, seed: u32) -> Result<Pair, Fail>
-    requires { AreUsed 0 used.now size }
+    requires { StandApart 0 used.now size }
 {
     let space = Space::from_used(alloc, used, size, limit, 0)?;
     let bytes = plain::start(alloc, used, size)?;
@@ -97,7 +98,7 @@ fn some_piece(space: &Space, used: bool, few: u32) -> Option<Piece>
     let pieces = space.pieces();
     let mut left = few;
     for at in 0..pieces.len() {
-        let piece = pieces[at];
+        let piece = pieces.piece(at);
         if is_wanted(&piece, used) {
             if left == 0 {
                 return Some(piece);
@@ -106,6 +107,23 @@ fn some_piece(space: &Space, used: bool, few: u32) -> Option<Piece>
         }
     }
     None
+}
+
+/// Whether a space has these pieces: one by one, and each by its place and by its last byte.
+pub(crate) fn same_pieces(rt: &impl Abort, space: &Space, wanted: &[Piece]) -> Result<(), Fail> {
+    let pieces = space.pieces();
+    assert_eq!(rt; pieces.len(), wanted.len());
+    for (piece, want) in pieces.iter().zip(wanted) {
+        assert_eq!(rt; piece, *want);
+        let last = piece.pos.saturating_add(piece.size).saturating_sub(1);
+        assert_eq!(rt; pieces.at_or_before(piece.pos), Some(piece));
+        assert_eq!(rt; pieces.at_or_before(last), Some(piece));
+        let used = piece.kind == Kind::Used;
+        let reserved = piece.kind == Kind::Reserved;
+        assert_eq!(rt; space.used_at(piece.pos), used.then_some(piece));
+        assert_eq!(rt; space.reserved_at(piece.pos), reserved.then_some(piece));
+    }
+    Ok(())
 }
 
 /// A number of bytes that may be asked for.
@@ -136,7 +154,9 @@ impl Pair {
         let need = some_need(self.number());
         let before = self.number() % 600;
         self.space.grow(2)?;
+        let fits = self.space.fits_below(need, before);
         let answer = self.space.place_below(need, before);
+        assert_eq!(rt; answer, fits);
         assert_eq!(rt; answer, plain::place_below(&mut self.bytes, need, before));
         Ok(())
     }
@@ -208,8 +228,12 @@ impl Pair {
     /// Whether both have the same pieces, totals and free spaces.
     fn compare(&mut self, rt: &impl Abort, alloc: Global) -> Result<(), Fail> {
         let pieces = plain::pieces(alloc, &self.bytes)?;
-        assert_eq!(rt; self.space.pieces(), pieces.as_slice());
+        same_pieces(rt, &self.space, pieces.as_slice())?;
         assert_eq!(rt; self.space.totals(), plain::totals(&self.bytes));
+        let leaving = plain::has(&self.bytes, Kind::Leaving);
+        assert_eq!(rt; self.space.has_leaving(), leaving);
+        let pending = plain::has(&self.bytes, Kind::Pending);
+        assert_eq!(rt; self.space.has_pending(), pending);
         let from = self.number() % 700;
         assert_eq!(rt;
             self.space.next_free(from),

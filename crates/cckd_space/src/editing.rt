@@ -28,7 +28,7 @@ ghost use Rattle.cckd_space.specs.Pieces.{
   offer,
 };
 ghost use Rattle.std.specs.Option.{option_map};
-ghost use Rattle.cckd_space.specs.Inside.{size_of, AreApart, EndsAt, EndsBelow, IsInOrder, IsShut};
+ghost use Rattle.cckd_space.specs.Inside.{size_of, AreMerged, EndsAt, EndsBelow, IsInOrder, IsShut};
 
 use crate::finding::{reserved_index, room_below_index, used_index};
 use crate::piece::{Piece, align, free, reserved};
@@ -221,7 +221,7 @@ fn join_next(pieces: &mut Vec<Piece>, at: usize) -> u64
 /// greatest number of bytes that is offered there then.
 pub(crate) fn free_at(pieces: &mut Vec<Piece>, at: usize) -> u64
     requires within { at < vec_len pieces.old }
-    requires apart { AreApart pieces.old.items }
+    requires merged { AreMerged pieces.old.items }
     requires sizes { size_of pieces.old.items < 2 ^ 32 }
     ensures items { (d : Piece) → pieces.new.items ≡ merged (take at pieces.old.items ++ freed (slice_index_or pieces.old.items at d) ∷ drop (at + 1) pieces.old.items) }
     ensures offers { largest pieces.new.items ≤ max (largest pieces.old.items) result }

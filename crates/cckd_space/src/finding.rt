@@ -1,10 +1,11 @@
 //! Where a piece stands in the list.
-ghost use Rattle.std.specs.Prelude.{◌≡◌, ◌<◌, ◌≤◌, length, position, IsSome, IsTrue, Some, slice_index_or};
+ghost use Rattle.std.specs.Prelude.{◌≡◌, ◌+◌, ◌<◌, ◌≤◌, length, position, IsSome, IsTrue, Some, slice_get, slice_index_or};
 ghost use Rattle.std.specs.List.{position_or_len};
-ghost use Rattle.cckd_space.specs.Inside.{IsInOrder, IsShut, StartsAt, is_open, is_pending};
-ghost use Rattle.cckd_space.specs.Pieces.{first, has_room, has_room_below, is_reserved_at, is_roomy_from, is_used_at};
+ghost use Rattle.cckd_space.specs.Inside.{IsInOrder, IsShut, StartsAt, is_open};
+ghost use Rattle.cckd_space.specs.Pieces.{begins_by, first, has_room, has_room_below, is_pending, is_reserved_at, is_roomy_from, is_used_at, last};
+ghost use Rattle.cckd_space.specs.Plan.{first_fit_below};
 
-use crate::piece::Piece;
+use crate::piece::{Piece, align};
 
 /// How many pieces begin before a place.
 pub(crate) fn start_index(pieces: &[Piece], pos: u32) -> usize
@@ -12,6 +13,68 @@ pub(crate) fn start_index(pieces: &[Piece], pos: u32) -> usize
     ensures { StartsAt pos pieces.now result }
 {
     pieces.partition_point(|p| p.pos < pos)
+}
+
+/// The piece at an index.
+pub(crate) fn piece_at(pieces: &[Piece], at: usize) -> Piece
+    requires { at < length pieces.now }
+    ensures { slice_get pieces.now at ≡ Some result }
+{
+    pieces[at]
+}
+
+/// How many pieces begin at or before a place.
+fn begun_index(pieces: &[Piece], pos: u32) -> usize
+    requires { IsInOrder pieces.now }
+    ensures { StartsAt (pos + 1) pieces.now result }
+{
+    pieces.partition_point(|p| p.pos <= pos)
+}
+
+/// The last piece that begins at or before a place.
+pub(crate) fn last_by(pieces: &[Piece], pos: u32) -> Option<Piece>
+    requires { IsInOrder pieces.now }
+    ensures { result ≡ last (begins_by pos) pieces.now }
+{
+    let count = begun_index(pieces, pos);
+    if count == 0 {
+        return None;
+    }
+    Some(pieces[count - 1])
+}
+
+/// The Used piece at `pos`.
+pub(crate) fn used_at(pieces: &[Piece], pos: u32) -> Option<Piece>
+    requires { IsInOrder pieces.now }
+    ensures { result ≡ first (is_used_at pos) pieces.now }
+{
+    let at = start_index(pieces, pos);
+    if at == pieces.len() {
+        return None;
+    }
+    let piece = pieces[at];
+    if piece.is_used_at(pos) {
+        Some(piece)
+    } else {
+        None
+    }
+}
+
+/// The Reserved piece at `pos`.
+pub(crate) fn reserved_at(pieces: &[Piece], pos: u32) -> Option<Piece>
+    requires { IsInOrder pieces.now }
+    ensures { result ≡ first (is_reserved_at pos) pieces.now }
+{
+    let at = start_index(pieces, pos);
+    if at == pieces.len() {
+        return None;
+    }
+    let piece = pieces[at];
+    if piece.is_reserved_at(pos) {
+        Some(piece)
+    } else {
+        None
+    }
 }
 
 /// The index of the Reserved piece at `pos`.
@@ -107,6 +170,20 @@ pub(crate) fn room_below_index(
         return None;
     };
     Some(solid + at)
+}
+
+/// Where so many bytes first fit and end at or below a place. No piece before `solid` offers 8.
+pub(crate) fn place_below(pieces: &[Piece], solid: usize, need: u32, before: u32) -> Option<u32>
+    requires some { 8 ≤ need }
+    requires within { solid ≤ length pieces.now }
+    requires shut { IsShut solid pieces.now }
+    requires order { IsInOrder pieces.now }
+    ensures { result ≡ first_fit_below need before pieces.now }
+{
+    let Some(at) = room_below_index(pieces, solid, need, before) else {
+        return None;
+    };
+    Some(align(pieces[at].pos) as u32)
 }
 
 /// The first free piece of at least 8 bytes that starts at or after a place.

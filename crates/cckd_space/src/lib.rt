@@ -7,6 +7,7 @@ mod editing;
 mod finding;
 mod making;
 mod piece;
+mod pieces;
 #[cfg(test)]
 mod plain;
 mod space;
@@ -16,4 +17,5 @@ mod totals;
 
 pub use cckd_base::{Extent, Full, Memory, Owner};
 pub use piece::{Kind, Move, Piece, Totals};
+pub use pieces::{PieceIter, Pieces};
 pub use space::Space;

@@ -1,7 +1,8 @@
 //! The pieces of a file of which these spaces are used.
 ghost use Rattle.std.specs.Prelude.{◌≡◌, ◌+◌, ◌*◌, ◌-◌, ◌<◌, ◌≤◌, ◌++◌, ◌∷◌, [], length, ◌^◌, IfOk};
 ghost use Rattle.std.specs.Vec.{vec_len, vec_capacity};
-ghost use Rattle.cckd_space.specs.Pieces.{AreUsed, pieces_of, free_run, used_piece};
+ghost use Rattle.cckd_base.specs.Survey.{StandApart};
+ghost use Rattle.cckd_space.specs.Pieces.{pieces_of, free_run, used_piece};
 
 use crate::editing::push_run;
 use crate::piece::{Piece, used};
@@ -37,7 +38,7 @@ pub(crate) fn list_pieces(
     size: u32,
     spare: usize,
 ) -> Result<Vec<Piece>, Memory>
-    requires used { AreUsed 0 extents.now size }
+    requires used { StandApart 0 extents.now size }
     requires spare { spare < 2 ^ 32 }
     ensures items { IfOk result (λ v. v.items ≡ pieces_of 0 extents.now size) }
     ensures capacity { IfOk result (λ v. vec_len v + spare ≤ vec_capacity v) }

@@ -3,6 +3,7 @@ ghost use Rattle.std.specs.Prelude.{◌≡◌, ◌+◌, ◌<◌, ◌^◌, ◌&&�
 ghost use Rattle.cckd_space.specs.Pieces.{
   is_free,
   is_used,
+  is_pending,
   is_roomy,
   is_roomy_from,
   is_reserved_at,
@@ -22,7 +23,7 @@ ghost use Rattle.cckd_space.specs.Pieces.{
   used_len,
   roomy_len,
 };
-ghost use Rattle.cckd_space.specs.Inside.{is_open, is_pending};
+ghost use Rattle.cckd_space.specs.Inside.{is_open};
 
 use cckd_base::{Extent, Owner};
 

@@ -195,6 +195,11 @@ pub(crate) fn change_all(bytes: &mut [Byte], from: Kind, to: Kind) {
     join_free(bytes);
 }
 
+/// Whether there are bytes of a kind.
+pub(crate) fn has(bytes: &[Byte], kind: Kind) -> bool {
+    bytes.iter().any(|byte| byte.kind == kind)
+}
+
 pub(crate) fn cut_back(bytes: &mut Vec<Byte>, len: u32) -> u32 {
     drop_free(bytes, len as usize);
     number(bytes.len())

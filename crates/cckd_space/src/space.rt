@@ -1,14 +1,15 @@
 //! The space of a file.
-ghost use Rattle.std.specs.Prelude.{◌≡◌, ◌+◌, ◌-◌, ◌*◌, ◌%◌, ◌<◌, ◌≤◌, ◌↔◌, ◌^◌, [], ◌∷◌, length, map, min, max, IfOk, OnOk, OnErr, IfErr, IsErr, IsOk, IsSome, IfSome, OnSome, None, Some, position, false};
+ghost use Rattle.std.specs.Prelude.{◌≡◌, ◌+◌, ◌-◌, ◌*◌, ◌%◌, ◌<◌, ◌≤◌, ◌↔◌, ◌^◌, [], ◌∷◌, length, map, min, max, IfOk, OnOk, OnErr, IfErr, IsErr, IsOk, IsTrue, IsSome, IfSome, OnSome, None, Some, position, false};
 ghost use Rattle.std.specs.Vec.{vec_len, vec_capacity};
 
 use crate::editing::{
     cut_end, free_at, free_end, leave_piece, merge, release_pieces, reserve_below, reserve_end,
     reserve_found, retire_pieces, settle_piece,
 };
-use crate::finding::{open_index, pending_index, reserved_index, room_index, roomy_index};
+use crate::finding::{self, open_index, pending_index, reserved_index, room_index, roomy_index};
 use crate::making::list_pieces;
 use crate::piece::{Piece, Totals, align};
+use crate::pieces::Pieces;
 use crate::totals::{add_up, largest_offer, roomy_first};
 use cckd_base::{Extent, Full, Memory, Owner};
 use std::alloc::Global;
@@ -27,7 +28,7 @@ pub struct Space {
     solid: usize,
     // No piece offers more bytes.
     most: u64,
-    // Where these are false, there is no Leaving piece, and no Pending one.
+    // Whether there is a Leaving piece, and whether there is a Pending one.
     leaving: bool,
     pending: bool,
 }
@@ -46,8 +47,9 @@ impl Model for Space {
 }
 
 impl Space {
-    ghost use Rattle.cckd_space.specs.Pieces.{first, replaced, is_used_at, is_reserved_at, settled, left, retired, released, merged, freed, has_room, reserved_piece, appended, end_place, has_room_below, reserved_in, cut, trimmed, used_end, largest, AreUsed};
-    ghost use Rattle.cckd_space.specs.Plan.{IsSound, CoversBytes, IsNeed, IsPlanOf, KeepsAllButSpare, Becomes, first_fit, first_fit_below, place_of, with_reserved, size_with, room, numbers, totals_of, free_from};
+    ghost use Rattle.cckd_base.specs.Survey.{StandApart};
+    ghost use Rattle.cckd_space.specs.Pieces.{first, replaced, counted, is_leaving, is_pending, is_used_at, is_reserved_at, settled, left, retired, released, merged, freed, has_room, reserved_piece, appended, end_place, has_room_below, reserved_in, cut, trimmed, used_end, largest};
+    ghost use Rattle.cckd_space.specs.Plan.{IsSound, IsClear, CoversBytes, IsNeed, IsPlanOf, KeepsAllButSpare, Becomes, first_fit, first_fit_below, place_of, with_reserved, size_with, room, numbers, totals_of, free_from};
 
     /// The space of a file of `size` bytes, of which these are used, and which may grow to `limit`
     /// bytes. So many pieces may be added without taking memory.
@@ -58,8 +60,9 @@ impl Space {
         limit: u32,
         spare: u32,
     ) -> Result<Space, Memory>
-        requires used { AreUsed 0 used.now size }
-        ensures { IfOk result (IsPlanOf used.now size limit spare) }
+        requires used { StandApart 0 used.now size }
+        ensures plan { IfOk result (IsPlanOf used.now size limit spare) }
+        ensures sound { IfOk result IsSound }
     {
         let pieces = list_pieces(alloc, used, size, spare as usize)?;
         let slots = pieces.len() + spare as usize;
@@ -81,6 +84,7 @@ impl Space {
         ensures enough { OnOk result (more ≤ self.new.spare) }
         ensures ready { more ≤ self.old.spare → IsOk result }
         ensures same { OnErr result (self.new ≡ self.old) }
+        ensures sound { IsSound self.new }
     {
         let wanted = self.pieces.len() + more as usize;
         if self.slots < wanted {
@@ -105,6 +109,11 @@ impl Space {
         // What is reserved is found at its place, and takes two pieces at most.
         ensures there { IfOk result (λ pos. first (is_reserved_at pos) self.new.pieces ≡ Some (reserved_piece pos need)) }
         ensures spent { self.old.spare ≤ self.new.spare + 2 }
+        ensures sound { IsSound self.new }
+
+        // Nobody needs its bytes, and they end at or below the limit, or inside the old file.
+        ensures clear { IfOk result (λ pos. IsClear self.old.pieces pos need) }
+        ensures within { IfOk result (λ pos. pos + need ≤ max self.old.limit self.old.size) }
     {
         match self.find_room(need) {
             Some(at) => Ok(self.place_found(at, need)),
@@ -116,6 +125,7 @@ impl Space {
     fn may_fit(&mut self, need: u32) -> bool
         ensures none { result ≡ false → largest self.old.pieces < need }
         ensures same { self.new ≡ self.old }
+        ensures sound { IsSound self.new }
     {
         if self.most < need as u64 {
             return false;
@@ -129,6 +139,7 @@ impl Space {
         requires { 8 ≤ need }
         ensures found { result ≡ position (has_room need) self.old.pieces }
         ensures same { self.new ≡ self.old }
+        ensures sound { IsSound self.new }
     {
         if !self.may_fit(need) {
             return None;
@@ -148,6 +159,7 @@ impl Space {
         ensures reserved { Becomes self.old self.new (replaced (has_room need) (reserved_in need) self.old.pieces) self.old.size }
         ensures there { first (is_reserved_at result) self.new.pieces ≡ Some (reserved_piece result need) }
         ensures spent { self.old.spare ≤ self.new.spare + 2 }
+        ensures sound { IsSound self.new }
     {
         reserve_found(&mut self.pieces, at, need)
     }
@@ -164,6 +176,8 @@ impl Space {
         ensures same { OnErr result (self.new ≡ self.old) }
         ensures there { IfOk result (λ pos. first (is_reserved_at pos) self.new.pieces ≡ Some (reserved_piece pos need)) }
         ensures spent { self.old.spare ≤ self.new.spare + 2 }
+        ensures sound { IsSound self.new }
+        ensures within { IfOk result (λ pos. pos + need ≤ self.old.limit) }
     {
         let end = free_end(self.pieces.as_slice(), self.size);
         let place = align(end);
@@ -191,6 +205,9 @@ impl Space {
         ensures reserved { Becomes self.old self.new (replaced (has_room_below need before) (reserved_in need) self.old.pieces) self.old.size }
         ensures there { IfSome result (λ pos. first (is_reserved_at pos) self.new.pieces ≡ Some (reserved_piece pos need)) }
         ensures spent { self.old.spare ≤ self.new.spare + 2 }
+        ensures sound { IsSound self.new }
+        ensures clear { IfSome result (λ pos. IsClear self.old.pieces pos need) }
+        ensures within { IfSome result (λ pos. pos + need ≤ min before self.old.size) }
     {
         if !self.may_fit(need) {
             return None;
@@ -198,13 +215,52 @@ impl Space {
         reserve_below(&mut self.pieces, self.solid, need, before)
     }
 
+    /// Where so many bytes would go that have to end at or below `before`.
+    pub fn fits_below(&self, need: u32, before: u32) -> Option<u32>
+        requires { IsNeed need }
+        ensures { result ≡ first_fit_below need before self.now.pieces }
+    {
+        if self.most < need as u64 {
+            return None;
+        }
+        finding::place_below(self.pieces.as_slice(), self.solid, need, before)
+    }
+
     /// The pieces, in order of position.
-    pub fn pieces(&self) -> &[Piece]
-        ensures listed { result.now ≡ self.now.pieces }
+    pub fn pieces(&self) -> Pieces<'_>
+        ensures listed { result ≡ self.now.pieces }
         ensures sound { IsSound self.now }
         ensures covers { CoversBytes self.now }
     {
-        self.pieces.as_slice()
+        Pieces::new(self.pieces.as_slice())
+    }
+
+    /// The Used piece at `pos`, if there is one.
+    pub fn used_at(&self, pos: u32) -> Option<Piece>
+        ensures { result ≡ first (is_used_at pos) self.now.pieces }
+    {
+        finding::used_at(self.pieces.as_slice(), pos)
+    }
+
+    /// The Reserved piece at `pos`, if there is one.
+    pub fn reserved_at(&self, pos: u32) -> Option<Piece>
+        ensures { result ≡ first (is_reserved_at pos) self.now.pieces }
+    {
+        finding::reserved_at(self.pieces.as_slice(), pos)
+    }
+
+    /// Whether there is a Leaving piece.
+    pub fn has_leaving(&self) -> bool
+        ensures { IsTrue result ↔ (0 < counted is_leaving self.now.pieces) }
+    {
+        self.leaving
+    }
+
+    /// Whether there is a Pending piece.
+    pub fn has_pending(&self) -> bool
+        ensures { IsTrue result ↔ (0 < counted is_pending self.now.pieces) }
+    {
+        self.pending
     }
 
     /// Turns the Reserved piece at `pos` into a Used one of this owner, of which `len` bytes are in
@@ -215,6 +271,7 @@ impl Space {
         ensures becomes { Becomes self.old self.new (replaced (is_reserved_at pos) (λ p. settled len owner p ∷ []) self.old.pieces) self.old.size }
         ensures there { IfSome (first (is_reserved_at pos) self.old.pieces) (λ p. first (is_used_at pos) self.new.pieces ≡ Some (settled len owner p)) }
         ensures spent { self.new.spare ≡ self.old.spare }
+        ensures sound { IsSound self.new }
     {
         settle_piece(&mut self.pieces, pos, len, owner);
     }
@@ -224,6 +281,7 @@ impl Space {
         requires there { IsSome (first (is_used_at pos) self.old.pieces) }
         ensures becomes { Becomes self.old self.new (replaced (is_used_at pos) (λ p. left p ∷ []) self.old.pieces) self.old.size }
         ensures spent { self.new.spare ≡ self.old.spare }
+        ensures sound { IsSound self.new }
     {
         leave_piece(&mut self.pieces, pos);
         self.leaving = true;
@@ -233,6 +291,7 @@ impl Space {
     pub fn retire_all(&mut self)
         ensures becomes { Becomes self.old self.new (map retired self.old.pieces) self.old.size }
         ensures spent { self.new.spare ≡ self.old.spare }
+        ensures sound { IsSound self.new }
     {
         if !self.leaving {
             return;
@@ -247,6 +306,7 @@ impl Space {
         requires there { IsSome (first (is_reserved_at pos) self.old.pieces) }
         ensures becomes { Becomes self.old self.new (merged (replaced (is_reserved_at pos) (λ p. freed p ∷ []) self.old.pieces)) self.old.size }
         ensures spent { self.old.spare ≤ self.new.spare }
+        ensures sound { IsSound self.new }
     {
         let at = reserved_index(self.pieces.as_slice(), pos);
         let offered = free_at(&mut self.pieces, at);
@@ -258,6 +318,7 @@ impl Space {
     pub fn release_all(&mut self)
         ensures becomes { Becomes self.old self.new (merged (map released self.old.pieces)) self.old.size }
         ensures spent { self.old.spare ≤ self.new.spare }
+        ensures sound { IsSound self.new }
     {
         if !self.pending {
             return;
@@ -275,6 +336,7 @@ impl Space {
         ensures size { result ≡ used_end self.old.pieces }
         ensures dropped { Becomes self.old self.new (trimmed self.old.pieces) (used_end self.old.pieces) }
         ensures spent { self.old.spare ≤ self.new.spare }
+        ensures sound { IsSound self.new }
     {
         let end = free_end(self.pieces.as_slice(), self.size);
         self.solid = self.solid.min(self.pieces.len().saturating_sub(1));
@@ -287,6 +349,7 @@ impl Space {
     pub fn cut_back(&mut self, len: u32)
         ensures becomes { Becomes self.old self.new (cut len self.old.size self.old.pieces) (max (used_end self.old.pieces) (min len self.old.size)) }
         ensures spent { self.old.spare ≤ self.new.spare }
+        ensures sound { IsSound self.new }
     {
         let end = free_end(self.pieces.as_slice(), self.size);
         self.solid = self.solid.min(self.pieces.len().saturating_sub(1));

@@ -2,7 +2,7 @@
 ghost use Rattle.std.specs.Prelude.{◌≤◌};
 ghost use Rattle.cckd_space.specs.Plan.{IsNeed};
 
-use crate::beside::{file, follow};
+use crate::beside::{file, follow, same_pieces};
 use crate::{Extent, Full, Kind, Owner, Piece, Space, Totals};
 use std::alloc::Global;
 use std::test::Fail;
@@ -278,8 +278,7 @@ fn a_table_given_back_leaves_the_header_alone(rt: HostRuntime) -> Result<(), Fai
         kind: Kind::Used,
         owner: Owner::Header,
     }];
-    assert_eq!(rt; space.pieces(), left.as_slice());
-    Ok(())
+    same_pieces(&rt, &space, left.as_slice())
 }
 
 #[test]

@@ -1,4 +1,3 @@
 pub mod AnswerLemmas
-pub mod HomeLemmas
+pub mod NullLemmas
 pub mod StopLemmas
-pub mod WritingLemmas

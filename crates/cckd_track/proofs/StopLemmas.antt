@@ -2,7 +2,7 @@
 use Rattle.std.proofs.Common.{◌≡◌, ℕ, ◌+◌, ◌%◌, ◌≤◌, true, false, eqb, List, ◌++◌, length, take, drop, Option, Some, Err, refl, sym, ap, subst, ◌∙◌, arith, inl, inr, length-append}
 use Rattle.std.specs.List.{flat_map}
 use Rattle.std.proofs.lemmas.Bool.{cases_eq, ne_eqb, eq-eqb}
-use Rattle.cckd_base.specs.declared.geometry.Layout.{Layout}
+use Rattle.cckd_base.specs.declared.geometry.Geometry.{Geometry}
 use Rattle.cckd_base.specs.declared.fault.TrackFault.{TrackFault}
 use Rattle.cckd_base.specs.declared.fault.TrackFault.TheVariants.{NoEnd, BadRecord}
 use Rattle.cckd_base.specs.Track.{CountKeyData, spelling, end_mark, home_address, FitsCount, may_stand, end_verdict, record_at, records_fault, track_fault}
@@ -62,10 +62,10 @@ fault_at at rest fault from short found =
           subst (IsFaultAt at rest) is (inl (refl, record { enough = unfit.long; no_record = none; no_end = λ behind. unfit.no_mark }))
     ]
 
-home_of : (l : Layout) (t : ℕ) (bytes : List ℕ) (flag : ℕ) (rest : List ℕ) → length bytes ≤ l.geo.track_size → flag % 4 ≡ 0 → bytes ≡ home_address l t flag ++ rest → HasHome l t bytes
-home_of l t bytes flag rest within plain spelled =
-    subst (HasHome l t) (sym spelled) (record {
-      within = subst (λ (b : List ℕ). length b ≤ l.geo.track_size) spelled within;
+home_of : (geo : Geometry) (t : ℕ) (bytes : List ℕ) (flag : ℕ) (rest : List ℕ) → length bytes ≤ geo.track_size → flag % 4 ≡ 0 → bytes ≡ home_address geo t flag ++ rest → HasHome geo t bytes
+home_of geo t bytes flag rest within plain spelled =
+    subst (HasHome geo t) (sym spelled) (record {
+      within = subst (λ (b : List ℕ). length b ≤ geo.track_size) spelled within;
       long = omega arith;
       plain = plain;
       here = refl;
@@ -83,10 +83,10 @@ stops_at bytes fault short s =
       stop = fault_at (5 + length (flat_map spelling s.records)) s.rest fault (omega arith) (omega arith) s.stop;
     }
 
-pub stops_behind : (l : Layout) (t : ℕ) (bytes : List ℕ) (fault : TrackFault) → IsBytes bytes → length bytes ≤ 65535 → track_fault l t bytes ≡ Some fault → StopsBehindRecords l t bytes fault
-stops_behind l t bytes fault byte short found flag rest within plain spelled =
-    let home = home_of l t bytes flag rest within plain spelled in
+pub stops_behind : (geo : Geometry) (t : ℕ) (bytes : List ℕ) (fault : TrackFault) → IsBytes bytes → length bytes ≤ 65535 → track_fault geo t bytes ≡ Some fault → StopsBehindRecords geo t bytes fault
+stops_behind geo t bytes fault byte short found flag rest within plain spelled =
+    let home = home_of geo t bytes flag rest within plain spelled in
     let left : drop 5 bytes ≡ rest = ap (λ (b : List ℕ). drop 5 b) spelled in
-    let said : records_fault 5 0 rest ≡ Some fault = ap (records_fault 5 0) (sym left) ∙ sym (home_passed l t bytes home) ∙ found in
+    let said : records_fault 5 0 rest ≡ Some fault = ap (records_fault 5 0) (sym left) ∙ sym (home_passed geo t bytes home) ∙ found in
     let fits : length rest ≤ 65535 = omega (arith, ap length spelled) in
     stops_at rest fault fits (subst (RecordsStop rest) said (records_stop rest (subst IsBytes left (IsBytes-drop 5 bytes byte))))

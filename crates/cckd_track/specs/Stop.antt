@@ -1,7 +1,7 @@
 -- Where the first fault behind a track's home address stands: behind whole records.
 use Rattle.std.specs.Prelude.{◌≡◌, ◌≢◌, ◌⊎◌, ℕ, ◌+◌, ◌%◌, ◌<◌, ◌≤◌, List, [], ◌++◌, length, take}
 use Rattle.std.specs.List.{flat_map}
-use Rattle.cckd_base.specs.declared.geometry.Layout.{Layout}
+use Rattle.cckd_base.specs.declared.geometry.Geometry.{Geometry}
 use Rattle.cckd_base.specs.declared.fault.TrackFault.{TrackFault}
 use Rattle.cckd_base.specs.declared.fault.TrackFault.TheVariants.{NoEnd, BadRecord, TooLong, Compressed, WrongTrack}
 use Rattle.cckd_base.specs.Track.{CountKeyData, spelling, end_mark, home_address, IsRecordZero, IsUserRecord, AreRecords}
@@ -43,7 +43,7 @@ pub record StopsAt (bytes : List ℕ) (fault : TrackFault) : Type 0 where
   pub stop : IsFaultAt (5 + length (flat_map spelling records)) rest fault
 
 -- a fault of bytes that fit and begin with the track's home address stands behind whole records
-abbrev pub StopsBehindRecords : Layout → ℕ → List ℕ → TrackFault → Type 0
-StopsBehindRecords l t bytes fault =
-    (flag : ℕ) (rest : List ℕ) → length bytes ≤ l.geo.track_size → flag % 4 ≡ 0
-    → bytes ≡ home_address l t flag ++ rest → StopsAt rest fault
+abbrev pub StopsBehindRecords : Geometry → ℕ → List ℕ → TrackFault → Type 0
+StopsBehindRecords geo t bytes fault =
+    (flag : ℕ) (rest : List ℕ) → length bytes ≤ geo.track_size → flag % 4 ≡ 0
+    → bytes ≡ home_address geo t flag ++ rest → StopsAt rest fault

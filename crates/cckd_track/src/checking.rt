@@ -1,9 +1,10 @@
-ghost use Rattle.std.specs.Prelude.{◌≡◌, ◌+◌, ◌<◌, ◌≤◌, length, drop, Some, OnOk, IfErr};
+ghost use Rattle.std.specs.Prelude.{◌≡◌, ◌+◌, ◌<◌, ◌≤◌, length, drop, OnOk};
 ghost use Rattle.cckd_base.specs.Geometry.{track_count, IsGeometry};
-ghost use Rattle.cckd_base.specs.Track.{OkUnless, may_stand, end_verdict, record_at, records_fault, track_fault};
+ghost use Rattle.cckd_base.specs.Track.{OkUnless, may_stand, end_verdict, record_at, size_fault, home_fault, records_fault};
 
 use crate::writing::{END_MARK, address_of};
-use cckd_base::{Layout, Track, TrackFault};
+use byteorder::{BigEndian, ByteOrder};
+use cckd_base::{Geometry, Track, TrackFault};
 
 /// The length of a count, and of the end mark.
 const COUNT_LEN: usize = 8;
@@ -11,32 +12,42 @@ const COUNT_LEN: usize = 8;
 /// Where record zero stands, behind the home address.
 const RECORD_ZERO: usize = 5;
 
-/// Whether the bytes fit the track size and begin with the home address of the track.
-pub(crate) fn check_home(l: &Layout, t: Track, bytes: &[u8]) -> Result<(), TrackFault>
-    requires geometry { IsGeometry l.now.geo }
-    requires track { t.0 < track_count l.now.geo }
-    requires length { length bytes.now ≤ 65535 }
-    ensures passed { OnOk result (5 ≤ length bytes.now) }
-    ensures left { OnOk result (track_fault l.now t.0 bytes.now ≡ records_fault 5 0 (drop 5 bytes.now)) }
-    ensures fault { IfErr result (λ fault. track_fault l.now t.0 bytes.now ≡ Some fault) }
+/// Whether the bytes fit the track size.
+pub(crate) fn check_size(geo: &Geometry, bytes: &[u8]) -> Result<(), TrackFault>
+    requires { length bytes.now ≤ 65535 }
+    ensures { OkUnless result (size_fault geo.now bytes.now) }
 {
     let len = bytes.len() as u32;
-    let max = l.geo.track_size;
+    let max = geo.track_size;
     if max < len {
         return Err(TrackFault::TooLong { len, max });
     }
-    let &[flag, a, b, c, d, ..] = bytes else {
-        return Err(TrackFault::NoEnd { at: len });
-    };
-    let here = bytes[1..5] == address_of(l.geo.addr(t))[..];
+    Ok(())
+}
+
+/// Whether the bytes begin with the home address of the track.
+pub(crate) fn check_address(geo: &Geometry, t: Track, bytes: &[u8]) -> Result<(), TrackFault>
+    requires geometry { IsGeometry geo.now }
+    requires track { t.0 < track_count geo.now }
+    requires length { length bytes.now ≤ 65535 }
+    ensures fault { OkUnless result (home_fault geo.now t.0 bytes.now) }
+    ensures long { OnOk result (5 ≤ length bytes.now) }
+{
+    if bytes.len() < RECORD_ZERO {
+        return Err(TrackFault::NoEnd {
+            at: bytes.len() as u32,
+        });
+    }
+    let flag = bytes[0];
+    let here = bytes[1..5] == address_of(geo.addr(t))[..];
     let plain = flag % 4 == 0;
     if !plain {
         return Err(TrackFault::Compressed { byte: flag });
     }
     if !here {
         return Err(TrackFault::WrongTrack {
-            cyl: u16::from_be_bytes([a, b]),
-            head: u16::from_be_bytes([c, d]),
+            cyl: BigEndian::read_u16(&bytes[1..]),
+            head: BigEndian::read_u16(&bytes[3..]),
         });
     }
     Ok(())
@@ -69,9 +80,7 @@ fn measure(at: usize, rest: &[u8]) -> Result<usize, Option<TrackFault>>
     if rest[..COUNT_LEN] == END_MARK[..] {
         return Err(judge_end(at, rest));
     }
-    let len = COUNT_LEN
-        + usize::from(rest[5])
-        + usize::from(u16::from_be_bytes([rest[6], rest[7]]));
+    let len = COUNT_LEN + usize::from(rest[5]) + usize::from(BigEndian::read_u16(&rest[6..]));
     if is_record(at, rest) && len <= rest.len() {
         Ok(len)
     } else {
@@ -108,7 +117,7 @@ fn is_record(at: usize, count: &[u8]) -> bool
 {
     let number = count[4];
     if at == RECORD_ZERO {
-        number == 0 && count[5] == 0 && u16::from_be_bytes([count[6], count[7]]) == 8
+        number == 0 && count[5] == 0 && BigEndian::read_u16(&count[6..]) == 8
     } else {
         number != 0
     }

@@ -1,12 +1,12 @@
 ghost use Rattle.std.specs.Prelude.{◌<◌, ◌≤◌, ◌↔◌, length, IsOk, IfErr};
-ghost use Rattle.cckd_base.specs.Geometry.{track_count, IsLayout};
-ghost use Rattle.cckd_base.specs.Track.{track_fault, null_track, OkUnless, IsTrack};
+ghost use Rattle.cckd_base.specs.Geometry.{track_count, IsGeometry};
+ghost use Rattle.cckd_base.specs.Track.{track_fault, home_fault, track_value, null_track, OkUnless, IsTrack};
 ghost use Rattle.cckd_track.specs.Stop.{StopsBehindRecords};
-ghost use Rattle.cckd_base.proofs.TrackLemmas.{null_passes_lem, null_fits_lem};
+ghost use Rattle.cckd_base.proofs.TrackLemmas.{null_passes_lem, null_fits_lem, null_value_lem, accepted_length_lem, value_passes_lem, value_length_lem, value_once_lem, home_in_front_lem, home_first_lem, home_is_fault_lem};
 
-use crate::checking::{check_home, check_records};
-use crate::writing::{END_MARK, count_bytes, home_bytes, put};
-use cckd_base::{Layout, Track, TrackFault, Unit};
+use crate::checking::{check_address, check_records, check_size};
+use crate::writing::{NULL_MAX, put_null};
+use cckd_base::{Geometry, Track, TrackFault, Unit};
 
 /// The unit of a CKD image: a track is a home address, records and an end mark.
 #[derive(Clone, Copy, Debug)]
@@ -15,39 +15,67 @@ pub struct Ckd;
 impl Unit for Ckd {
     ghost fault = { track_fault };
 
+    ghost home_fault = { home_fault };
+
+    ghost value = { track_value };
+
     ghost null_bytes = { null_track };
 
     /// Whether the bytes are those of track `t`, within the track size. The flag byte's upper bits are free.
-    fn check(l: &Layout, t: Track, bytes: &[u8]) -> Result<(), TrackFault>
-        requires layout { IsLayout l.now }
-        requires track { t.0 < track_count l.now.geo }
+    fn check(geo: &Geometry, t: Track, bytes: &[u8]) -> Result<(), TrackFault>
+        requires geometry { IsGeometry geo.now }
+        requires track { t.0 < track_count geo.now }
         requires length { length bytes.now ≤ 65535 }
-        ensures fault { OkUnless result (track_fault l.now t.0 bytes.now) }
+        ensures fault { OkUnless result (track_fault geo.now t.0 bytes.now) }
 
         // Bytes of the grammar alone are accepted, and a fault behind the home address stands behind whole records.
-        ensures accepted { IsOk result ↔ IsTrack l.now t.0 bytes.now }
-        ensures stop { IfErr result (StopsBehindRecords l.now t.0 bytes.now) }
+        ensures accepted { IsOk result ↔ IsTrack geo.now t.0 bytes.now }
+        ensures stop { IfErr result (StopsBehindRecords geo.now t.0 bytes.now) }
     {
-        check_home(l, t, bytes)?;
+        check_size(geo, bytes)?;
+        check_address(geo, t, bytes)?;
         check_records(bytes)
     }
 
+    /// Whether the bytes begin with the home address of track `t`, in a flag byte that names no compression.
+    fn check_home(geo: &Geometry, t: Track, bytes: &[u8]) -> Result<(), TrackFault> {
+        check_address(geo, t, bytes)
+    }
+
+    /// Clears the flag byte, in which bits that name no compression may stand.
+    fn settle(bytes: &mut [u8]) {
+        bytes[0] = 0;
+    }
+
     /// Record one stands behind record zero in format 0 alone.
-    fn null(l: &Layout, t: Track, fmt: u8, out: &mut [u8]) -> u16 {
-        let a = l.geo.addr(t);
-        let at = put(out, 0, &home_bytes(a));
-        let at = put(out, at, &count_bytes(a, 0, 0, 8));
-        let at = put(out, at, &[0; 8]);
-        let with_record_one = fmt == 0;
-        let at = if with_record_one {
-            put(out, at, &count_bytes(a, 1, 0, 0))
-        } else {
-            at
-        };
-        put(out, at, &END_MARK) as u16
+    fn null(geo: &Geometry, t: Track, fmt: u8, out: &mut [u8]) -> u16 {
+        put_null(out, geo.addr(t), fmt) as u16
+    }
+
+    /// The bytes are compared with at most 37 others.
+    fn is_null(geo: &Geometry, t: Track, fmt: u8, bytes: &[u8]) -> bool {
+        let mut track = [0; NULL_MAX];
+        let len = put_null(track.as_mut_slice(), geo.addr(t), fmt);
+        bytes == &track[..len]
     }
 
     ghost null_passes = { null_passes_lem };
 
     ghost null_fits = { null_fits_lem };
+
+    ghost null_value = { null_value_lem };
+
+    ghost accepted_length = { accepted_length_lem };
+
+    ghost value_passes = { value_passes_lem };
+
+    ghost value_length = { value_length_lem };
+
+    ghost value_once = { value_once_lem };
+
+    ghost home_in_front = { home_in_front_lem };
+
+    ghost home_first = { home_first_lem };
+
+    ghost home_is_fault = { home_is_fault_lem };
 }

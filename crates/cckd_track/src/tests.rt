@@ -1,8 +1,8 @@
 ghost use Rattle.std.specs.Prelude.{◌≡◌, ◌<◌};
-ghost use Rattle.cckd_base.specs.Geometry.{track_count, IsLayout, IsNullFormat};
+ghost use Rattle.cckd_base.specs.Geometry.{track_count, IsGeometry, IsNullFormat};
 
 use super::*;
-use cckd_base::{Geometry, Layout, Order, Track, TrackFault};
+use cckd_base::{Geometry, Track, TrackFault};
 use std::alloc::{AllocError, Global};
 use std::process::Abort;
 use std::test::Fail;
@@ -25,40 +25,28 @@ const WRITTEN: &[u8] = &[
 const END: &[u8] = &[0xff; 8];
 
 /// A 2311.
-fn small() -> Layout
-    ensures layout { IsLayout result }
-    ensures tracks { track_count result.geo ≡ 2000 }
+fn small() -> Geometry
+    ensures geometry { IsGeometry result }
+    ensures tracks { track_count result ≡ 2000 }
 {
-    Layout {
-        order: Order::Little,
-        geo: Geometry {
-            devtype: 0x11,
-            heads: 10,
-            cyls: 200,
-            track_size: 4_096,
-        },
-        groups: 8,
-        shadow: false,
-        null_fmt: 0,
+    Geometry {
+        devtype: 0x11,
+        heads: 10,
+        cyls: 200,
+        track_size: 4_096,
     }
 }
 
 /// A 3390-1.
-fn large() -> Layout
-    ensures layout { IsLayout result }
-    ensures tracks { track_count result.geo ≡ 16695 }
+fn large() -> Geometry
+    ensures geometry { IsGeometry result }
+    ensures tracks { track_count result ≡ 16695 }
 {
-    Layout {
-        order: Order::Big,
-        geo: Geometry {
-            devtype: 0x90,
-            heads: 15,
-            cyls: 1_113,
-            track_size: 56_832,
-        },
-        groups: 66,
-        shadow: true,
-        null_fmt: 1,
+    Geometry {
+        devtype: 0x90,
+        heads: 15,
+        cyls: 1_113,
+        track_size: 56_832,
     }
 }
 
@@ -73,21 +61,23 @@ fn joined(alloc: Global, parts: &[&[u8]]) -> Result<Vec<u8>, AllocError> {
 fn shows_null(
     rt: &impl Abort,
     alloc: Global,
-    l: &Layout,
+    geo: &Geometry,
     t: Track,
     fmt: u8,
     parts: &[&[u8]],
 ) -> Result<(), AllocError>
-    requires layout { IsLayout l.now }
-    requires track { t.0 < track_count l.now.geo }
-    requires format { IsNullFormat l.now.geo fmt }
+    requires geometry { IsGeometry geo.now }
+    requires track { t.0 < track_count geo.now }
+    requires format { IsNullFormat geo.now fmt }
 {
     let mut out = vec![in alloc; 0xee; 65_536]?;
-    let len = usize::from(Ckd::null(l, t, fmt, &mut out));
+    let len = usize::from(Ckd::null(geo, t, fmt, &mut out));
     let want = joined(alloc, parts)?;
     assert!(rt; len <= out.len());
     assert_eq!(rt; &out[..len], want.as_slice());
     assert!(rt; out[len..].iter().all(|b| *b == 0xee));
+    assert!(rt; Ckd::is_null(geo, t, fmt, want.as_slice()));
+    assert!(rt; !Ckd::is_null(geo, t, fmt, &out));
     Ok(())
 }
 
@@ -274,5 +264,30 @@ fn a_track_may_be_as_long_as_the_track_size(rt: HostRuntime) -> Result<(), Fail>
         assert!(rt; bytes.len() <= 65_535);
         assert_eq!(rt; Ckd::check(&small(), Track(0), &bytes), Err(want), "{len}");
     }
+    Ok(())
+}
+
+#[test]
+fn a_home_address_is_judged_by_itself(rt: HostRuntime) -> Result<(), Fail> {
+    let rows: [(&[u8], Result<(), TrackFault>); 5] = [
+        (&[0, 0, 0, 0, 0], Ok(())),
+        (&[0xfc, 0, 0, 0, 0, 1, 2, 3], Ok(())),
+        (&[0, 0, 0, 0], Err(TrackFault::NoEnd { at: 4 })),
+        (&[2, 9, 9, 9, 9], Err(TrackFault::Compressed { byte: 2 })),
+        (
+            &[0, 1, 2, 3, 4],
+            Err(TrackFault::WrongTrack {
+                cyl: 0x102,
+                head: 0x304,
+            }),
+        ),
+    ];
+    for (bytes, want) in rows {
+        assert!(rt; bytes.len() <= 65_535);
+        assert_eq!(rt; Ckd::check_home(&small(), Track(0), bytes), want);
+    }
+    let mut bytes = [0xfc, 1, 2];
+    Ckd::settle(bytes.as_mut_slice());
+    assert_eq!(rt; bytes, [0, 1, 2]);
     Ok(())
 }

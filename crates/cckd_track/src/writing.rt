@@ -1,46 +1,89 @@
-ghost use Rattle.std.specs.Prelude.{◌≡◌, ℕ, ◌+◌, ◌≤◌, ◌∷◌, [], ◌++◌, length, take, drop};
+ghost use Rattle.std.specs.Prelude.{◌≡◌, ◌+◌, ◌≤◌, ◌∷◌, [], ◌++◌, length};
+ghost use Rattle.std.specs.List.{flat_map};
 ghost use Rattle.std.specs.Int.{w16, to_be_bytes};
-ghost use Rattle.cckd_base.specs.Track.{address_bytes};
+ghost use Rattle.cckd_base.specs.Put.{IsPut};
+ghost use Rattle.cckd_base.specs.Track.{address_bytes, end_mark, spelling, null_record_zero, null_record_one, null_records};
 
-use cckd_base::Addr;
+use byteorder::{BigEndian, ByteOrder};
+use cckd_base::{Addr, put_bytes};
 
 /// What ends a track.
 pub(crate) const END_MARK: [u8; 8] = [0xff; 8];
+
+/// The greatest length of a null track in bytes.
+pub(crate) const NULL_MAX: usize = 37;
 
 /// Cylinder and head.
 pub(crate) fn address_of(a: Addr) -> [u8; 4]
     ensures { result ≡ address_bytes a.cyl a.head }
 {
-    let [c, d] = a.cyl.to_be_bytes();
-    let [h, i] = a.head.to_be_bytes();
-    [c, d, h, i]
+    let mut bytes = [0; 4];
+    BigEndian::write_u16(&mut bytes, a.cyl);
+    BigEndian::write_u16(&mut bytes[2..], a.head);
+    bytes
 }
 
 /// The home address of a track: a flag byte 0, cylinder and head.
-pub(crate) fn home_bytes(a: Addr) -> [u8; 5]
+fn home_bytes(a: Addr) -> [u8; 5]
     ensures { result ≡ 0 ∷ address_bytes a.cyl a.head }
 {
     let [c, d, h, i] = address_of(a);
     [0, c, d, h, i]
 }
 
-/// The count of a record at an address.
-pub(crate) fn count_bytes(a: Addr, number: u8, key_len: u8, body_len: u16) -> [u8; 8]
-    ensures { result ≡ address_bytes a.cyl a.head ++ number ∷ key_len ∷ [] ++ to_be_bytes w16 body_len }
+/// The count of a record without key at an address.
+fn count_bytes(a: Addr, number: u8, body_len: u16) -> [u8; 8]
+    ensures { result ≡ address_bytes a.cyl a.head ++ number ∷ 0 ∷ [] ++ to_be_bytes w16 body_len }
 {
-    let [c, d, h, i] = address_of(a);
-    let [m, n] = body_len.to_be_bytes();
-    [c, d, h, i, number, key_len, m, n]
+    let mut bytes = [0; 8];
+    BigEndian::write_u16(&mut bytes, a.cyl);
+    BigEndian::write_u16(&mut bytes[2..], a.head);
+    bytes[4] = number;
+    BigEndian::write_u16(&mut bytes[6..], body_len);
+    bytes
 }
 
-/// Writes `part` into `out` from `at` on, and answers where it ends.
-pub(crate) fn put(out: &mut [u8], at: usize, part: &[u8]) -> usize
-    requires { at + length part.now ≤ length out.old }
-    ensures end { result ≡ at + length part.now }
-    ensures written { take result out.new ≡ take at out.old ++ part.now }
-    ensures kept { (n : ℕ) → result ≤ n → drop n out.new ≡ drop n out.old }
+/// Puts a record zero of eight zero bytes.
+fn put_record_zero(out: &mut [u8], at: usize, a: Addr) -> usize
+    requires { at + 16 ≤ length out.old }
+    ensures { IsPut at result (spelling (null_record_zero a)) out.old out.new }
 {
-    let end = at + part.len();
-    out[at..end].copy_from_slice(part);
-    end
+    let at = put_bytes(out, at, &count_bytes(a, 0, 8));
+    put_bytes(out, at, &[0; 8])
+}
+
+/// Puts a record one without key and data.
+fn put_record_one(out: &mut [u8], at: usize, a: Addr) -> usize
+    requires { at + 8 ≤ length out.old }
+    ensures { IsPut at result (spelling (null_record_one a)) out.old out.new }
+{
+    put_bytes(out, at, &count_bytes(a, 1, 0))
+}
+
+/// Puts the records of a null track.
+fn put_records(out: &mut [u8], at: usize, a: Addr, fmt: u8) -> usize
+    requires { at + 24 ≤ length out.old }
+    ensures put { IsPut at result (flat_map spelling (null_records a fmt)) out.old out.new }
+    ensures short { result ≤ at + 24 }
+{
+    match fmt {
+        0 => {
+            let at = put_record_zero(out, at, a);
+            put_record_one(out, at, a)
+        }
+        1 => put_record_zero(out, at, a),
+        _ => at,
+    }
+}
+
+/// Puts a null track to the front of a buffer, and answers its length.
+pub(crate) fn put_null(out: &mut [u8], a: Addr, fmt: u8) -> usize
+    requires { NULL_MAX ≤ length out.old }
+    ensures put { IsPut 0 result (0 ∷ address_bytes a.cyl a.head
+        ++ flat_map spelling (null_records a fmt) ++ end_mark) out.old out.new }
+    ensures short { result ≤ NULL_MAX }
+{
+    let at = put_bytes(out, 0, &home_bytes(a));
+    let at = put_records(out, at, a, fmt);
+    put_bytes(out, at, &END_MARK)
 }

@@ -9,18 +9,18 @@ use Rattle.std.proofs.lemmas.Bool.{false≢true}
 use Rattle.cckd_script.proofs.parse.number_in.Goals as goal
 
 -- the digits of a number are text
-utf8_of_decimal : (n : ℕ) (word : List ℕ) → n < 2 ^ 16 → word ≡ decimal n → IsUtf8 word
+utf8_of_decimal : (n : ℕ) (word : List ℕ) → n < 2 ^ 32 → word ≡ decimal n → IsUtf8 word
 utf8_of_decimal n word small e =
     subst IsUtf8 (sym e) (IsUtf8-from_ascii (decimal n) (IsAscii-decimal n (omega arith)))
 
 -- the digits of a number are read as that number
-read_is : {E : Type 0} (n : ℕ) (text word : List ℕ) (r : Result ℕ E) → n < 2 ^ 16 → text ≡ word → word ≡ decimal n
-    → ParsesUnsigned 16 10 text r → r ≡ Ok n
-read_is n text word r small is e read = parse-decimal 16 n text r small (omega arith) (is ∙ e) read
+read_is : {E : Type 0} (n : ℕ) (text word : List ℕ) (r : Result ℕ E) → n < 2 ^ 32 → text ≡ word → word ≡ decimal n
+    → ParsesUnsigned 32 10 text r → r ≡ Ok n
+read_is n text word r small is e read = parse-decimal 32 n text r small (omega arith) (is ∙ e) read
 
 -- and as no other
-read_one : (m n : ℕ) (text word : List ℕ) → n < 2 ^ 16 → text ≡ word → word ≡ decimal n
-    → ParsesUnsigned {E = Unit {0}} 16 10 text (Ok m) → m ≡ n
+read_one : (m n : ℕ) (text word : List ℕ) → n < 2 ^ 32 → text ≡ word → word ≡ decimal n
+    → ParsesUnsigned {E = Unit {0}} 32 10 text (Ok m) → m ≡ n
 read_one m n text word small is e read =
     let given : Result ℕ (Unit {0}) = Ok m in
     let r : given ≡ Ok n = read_is n text word given small is e read in cc r

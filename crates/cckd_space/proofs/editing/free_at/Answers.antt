@@ -10,7 +10,7 @@ join_next-behind-requires-clause-sizes c =
 
 pub returns-then-at-eq0-clause-items : goal.returns-then-at-eq0-clause-items
 returns-then-at-eq0-clause-items c = λ d.
-    freed_first c.args.pieces.now.items c.join_next-behind.new.pieces.items c.args.at d c.requires.apart
+    freed_first c.args.pieces.now.items c.join_next-behind.new.pieces.items c.args.at d c.requires.merged
     (freed_at c.args.pieces.now.items c.join_next-behind.new.pieces.items c.args.at c.index-piece.result.now c.free.result d (omega arith) c.index-piece.ensures c.free.ensures (c.join_next-behind.ensures.items d))
     (omega arith)
 
@@ -37,7 +37,7 @@ join_next-before-requires-clause-sizes c =
 
 pub returns-clause-items : goal.returns-clause-items
 returns-clause-items c = λ d.
-    freed_later c.args.pieces.now.items c.join_next-behind.new.pieces.items c.join_next-before.new.pieces.items c.args.at (c.args.at - 1) d c.requires.apart
+    freed_later c.args.pieces.now.items c.join_next-behind.new.pieces.items c.join_next-before.new.pieces.items c.args.at (c.args.at - 1) d c.requires.merged
     (freed_at c.args.pieces.now.items c.join_next-behind.new.pieces.items c.args.at c.index-piece.result.now c.free.result d (omega arith) c.index-piece.ensures c.free.ensures (c.join_next-behind.ensures.items d))
     (omega arith) (c.join_next-before.ensures.items d)
 

@@ -2,7 +2,7 @@ use Rattle.std.proofs.Common.{sym, ◌∙◌}
 use Rattle.cckd_base.specs.declared.space.Owner.TheVariants.{Nobody}
 use Rattle.cckd_space.specs.declared.piece.Kind.TheVariants.{Used}
 use Rattle.cckd_space.specs.declared.piece.Piece.{Piece}
-use Rattle.cckd_space.specs.Inside.{is_pending}
+use Rattle.cckd_space.specs.Pieces.{is_pending}
 use Rattle.cckd_space.proofs.SearchLemmas.{none_before, some_before}
 use Rattle.cckd_space.proofs.finding.pending_index.Goals as goal
 

@@ -2,7 +2,7 @@ use Rattle.std.proofs.Common.{◌+◌, List, ◌∷◌, drop, get_or, subst, ari
 use Rattle.std.proofs.lemmas.List.{drop_more}
 use Rattle.cckd_base.specs.declared.space.Owner.TheVariants.{Nobody}
 use Rattle.cckd_base.specs.declared.space.Extent.{Extent}
-use Rattle.cckd_space.specs.Pieces.{AreUsed}
+use Rattle.cckd_base.specs.Survey.{StandApart}
 use Rattle.cckd_space.proofs.LaidLemmas.{used_le}
 use Rattle.cckd_space.proofs.making.list_pieces.Goals as goal
 
@@ -11,7 +11,7 @@ overflow_add-at c =
     let blank : Extent = record { pos = 0; len = 0; size = 0; owner = Nobody } in
     let this : Extent = get_or c.args.extents.now c.loop-extent.extent-index blank in
     let rest : List Extent = drop (c.loop-extent.extent-index + 1) c.args.extents.now in
-    let h : AreUsed c.loop-extent.at (this ∷ rest) c.args.size =
-    subst (λ (es : List Extent). AreUsed c.loop-extent.at es c.args.size) (drop_more c.args.extents.now c.loop-extent.extent-index blank c.loop-extent-test.true) c.loop-extent.invariant.used in
+    let h : StandApart c.loop-extent.at (this ∷ rest) c.args.size =
+    subst (λ (es : List Extent). StandApart c.loop-extent.at es c.args.size) (drop_more c.args.extents.now c.loop-extent.extent-index blank c.loop-extent-test.true) c.loop-extent.invariant.used in
     let r = used_le (this.pos + this.size) rest c.args.size h.3 in
     omega (arith, r)

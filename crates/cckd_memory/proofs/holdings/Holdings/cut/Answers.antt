@@ -24,6 +24,6 @@ returns-clause-cut c = λ script.
     let inside : c.get-at.result < length c.args.self.now.places.items = omega (arith, c.get-at.ensures.within, held.nine) in
     same_world
     (files_cut _ _ _ _ c.get-at.result c.args.len c.index_mut-place.result.now held
-        (get_or_read _ _ _ inside c.index_mut-place.ensures.value no_place) c.cut_held.ensures.files)
+    (get_or_read _ _ _ inside c.index_mut-place.ensures.value no_place) c.cut_held.ensures.files)
     (c.in_ok-add.ensures.added ∙ ap (λ (o : Op). event_of o ∷ c.args.self.now.history) c.cut_op.ensures)
     ∙ ap (λ n. after_cut_off c.args.half n c.args.len (world_in c.args.self.now script)) c.get-at.ensures.value

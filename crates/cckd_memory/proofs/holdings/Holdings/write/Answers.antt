@@ -25,6 +25,6 @@ returns-clause-written c = λ script.
     let inside : c.get-at.result < length c.args.self.now.places.items = omega (arith, c.get-at.ensures.within, held.nine) in
     same_world
     (files_overlay _ _ _ _ c.get-at.result c.args.pos c.args.bytes.now c.index_mut-place.result.now held
-        (get_or_read _ _ _ inside c.index_mut-place.ensures.value no_place) c.in-Ok.ensures.files)
+    (get_or_read _ _ _ inside c.index_mut-place.ensures.value no_place) c.in-Ok.ensures.files)
     (c.in_ok-add.ensures.added ∙ ap (λ (o : Op). event_of o ∷ c.args.self.now.history) (c.write_op.ensures ∙ ap (write_op c.args.half c.get-at.result c.args.pos) c.in_ok-copy.ensures))
     ∙ ap (λ n. after_overlay c.args.half n c.args.pos c.args.bytes.now (world_in c.args.self.now script)) c.get-at.ensures.value

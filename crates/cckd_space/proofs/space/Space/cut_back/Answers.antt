@@ -35,5 +35,15 @@ invariant_of-self c =
       within = shut_within solid c.cut_end.new.pieces.items shut;
       shut = shut;
       offers = omega (arith, less, ap largest c.cut_end.ensures.items, c.self.invariant.offers);
-      marked = subst (λ (l : List Piece). IsMarked l c.self.inside.leaving c.self.inside.pending) (sym c.cut_end.ensures.items) (marked_cut old (used_end old) (min c.args.len c.self.inside.size) c.self.inside.leaving c.self.inside.pending c.self.invariant.marked);
+      marked = subst (λ (l : List Piece). IsMarked l c.self.inside.leaving c.self.inside.pending) (sym c.cut_end.ensures.items) (marked_cut c.args.len c.self.inside.size old c.self.inside.leaving c.self.inside.pending c.self.invariant.marked);
+    }
+
+pub returns-clause-sound : goal.returns-clause-sound
+returns-clause-sound c =
+    let end : max (used_end c.self.inside.pieces.items) (min c.args.len c.self.inside.size) ≡ c.max-self-inside.result =
+    let e = ap used_end c.as_slice.ensures.value in omega (arith, e) in
+    record {
+      laid = subst (λ (l : List Piece). IsLaid 0 l c.max-self-inside.result) (sym c.cut_end.ensures.items)
+          (subst (λ (n : ℕ). IsLaid 0 (cut c.args.len c.self.inside.size c.self.inside.pieces.items) n) end
+          (laid_cut c.args.len c.self.inside.pieces.items c.self.inside.size c.self.invariant.laid));
     }

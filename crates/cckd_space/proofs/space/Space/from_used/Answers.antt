@@ -20,3 +20,8 @@ invariant_of-result c =
       offers = largest_fits 0 c.in_ok-pieces.pieces.items c.args.size laid;
       marked = subst (λ (l : List Piece). IsMarked l false false) (sym c.in_ok-pieces.ensures.items) (marked_used c.args.used.now c.args.size);
     }
+
+pub returns-clause-sound : goal.returns-clause-sound
+returns-clause-sound c = record {
+  laid = subst (λ (l : List Piece). IsLaid 0 l c.args.size) (sym c.in_ok-pieces.ensures.items) (laid_pieces_of 0 c.args.used.now c.args.size c.requires.used);
+}

@@ -8,7 +8,7 @@ use Rattle.cckd_space.specs.Inside.{IsInOrder, IsMarked, IsShut}
 use Rattle.cckd_space.proofs.MarkLemmas.{marked_merged, marked_swapped}
 use Rattle.cckd_space.proofs.LaidLemmas.{laid_freed, laid_row, row_size}
 use Rattle.cckd_space.proofs.FirstLemmas.{is_first}
-use Rattle.cckd_space.proofs.MergeLemmas.{freed_items, laid_apart}
+use Rattle.cckd_space.proofs.MergeLemmas.{freed_items, laid_are_merged}
 use Rattle.cckd_space.proofs.SearchLemmas.{laid_order, shut_within}
 use Rattle.cckd_space.proofs.KeptLemmas.{shut_freed}
 use Rattle.cckd_space.proofs.space.Space.give_back.Goals as goal
@@ -16,8 +16,8 @@ use Rattle.cckd_space.proofs.space.Space.give_back.Goals as goal
 pub reserved_index-at-requires-clause-order : goal.reserved_index-at-requires-clause-order
 reserved_index-at-requires-clause-order c = subst IsInOrder (sym c.as_slice.ensures.value) (laid_order c.self.inside.pieces.items c.self.inside.size c.self.invariant.laid)
 
-pub free_at-offered-requires-clause-apart : goal.free_at-offered-requires-clause-apart
-free_at-offered-requires-clause-apart c = laid_apart 0 c.self.inside.pieces.items c.self.inside.size c.self.invariant.laid
+pub free_at-offered-requires-clause-merged : goal.free_at-offered-requires-clause-merged
+free_at-offered-requires-clause-merged c = laid_are_merged 0 c.self.inside.pieces.items c.self.inside.size c.self.invariant.laid
 
 pub free_at-offered-requires-clause-sizes : goal.free_at-offered-requires-clause-sizes
 free_at-offered-requires-clause-sizes c = omega (arith, row_size 0 c.self.inside.pieces.items c.self.inside.size (laid_row 0 c.self.inside.pieces.items c.self.inside.size c.self.invariant.laid))
@@ -50,9 +50,9 @@ invariant_of-self c =
     let d : Piece = record { pos = 0; len = 0; size = 0; kind = Used; owner = Nobody } in
     let f = is_first (is_reserved_at c.args.pos) old at d (subst (λ (l : List Piece). position (is_reserved_at c.args.pos) l ≡ Some at) c.as_slice.ensures.value c.reserved_index-at.ensures) in
     let shut : IsShut c.min-self-inside.result c.free_at-offered.new.pieces.items =
-    shut_freed c.self.inside.solid at c.min-self-inside.result old c.free_at-offered.new.pieces.items d (laid_apart 0 old c.self.inside.size c.self.invariant.laid) f.within (c.free_at-offered.ensures.items d) (omega arith) c.self.invariant.shut in
+    shut_freed c.self.inside.solid at c.min-self-inside.result old c.free_at-offered.new.pieces.items d (laid_are_merged 0 old c.self.inside.size c.self.invariant.laid) f.within (c.free_at-offered.ensures.items d) (omega arith) c.self.invariant.shut in
     let test = is_reserved_at c.args.pos in
-    let marked = marked_merged (replaced test (λ p. freed p ∷ []) old) c.self.inside.leaving c.self.inside.pending (marked_swapped test freed (λ p. refl) (λ p. refl) old c.self.inside.leaving c.self.inside.pending c.self.invariant.marked) in
+    let marked = marked_merged (replaced test (λ p. freed p ∷ []) old) c.self.inside.leaving c.self.inside.pending (marked_swapped c.args.pos freed (λ p. refl) (λ p. refl) old c.self.inside.leaving c.self.inside.pending c.self.invariant.marked) in
     record {
       laid = subst (λ (l : List Piece). IsLaid 0 l c.self.inside.size) (sym new) (laid_freed (is_reserved_at c.args.pos) old c.self.inside.size c.self.invariant.laid);
       fewer = omega arith;
@@ -62,3 +62,10 @@ invariant_of-self c =
       offers = omega (arith, c.free_at-offered.ensures.offers, c.max-self-inside.ensures, c.self.invariant.offers);
       marked = subst (λ (l : List Piece). IsMarked l c.self.inside.leaving c.self.inside.pending) (sym new) marked;
     }
+
+pub returns-clause-sound : goal.returns-clause-sound
+returns-clause-sound c =
+    let old = c.self.inside.pieces.items in
+    let at = c.reserved_index-at.result in
+    let new = became c.args.pos at old c.as_slice.result.now c.free_at-offered.new.pieces.items c.as_slice.ensures.value c.reserved_index-at.ensures c.free_at-offered.ensures.items in
+    record { laid = subst (λ (l : List Piece). IsLaid 0 l c.self.inside.size) (sym new) (laid_freed (is_reserved_at c.args.pos) old c.self.inside.size c.self.invariant.laid) }

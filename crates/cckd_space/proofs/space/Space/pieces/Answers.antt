@@ -1,7 +1,12 @@
-use Rattle.std.proofs.Common.{subst, arith}
+use Rattle.std.proofs.Common.{sym, subst, arith}
 use Rattle.cckd_space.specs.Plan.{CoversBytes}
+use Rattle.cckd_space.specs.Inside.{IsInOrder}
+use Rattle.cckd_space.proofs.SearchLemmas.{laid_order}
 use Rattle.cckd_space.proofs.CallerLemmas.{one_within, none_beyond, kinds_counted, kinds_shared, no_more}
 use Rattle.cckd_space.proofs.space.Space.pieces.Goals as goal
+
+pub new-requires : goal.new-requires
+new-requires c = subst IsInOrder (sym c.as_slice.ensures.value) (laid_order c.self.inside.pieces.items c.self.inside.size c.self.invariant.laid)
 
 pub returns-clause-covers : goal.returns-clause-covers
 returns-clause-covers c =

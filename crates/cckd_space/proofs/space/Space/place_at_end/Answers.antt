@@ -37,7 +37,7 @@ invariant_of-self c =
       within = shut_within solid c.reserve_end.new.pieces.items shut;
       shut = shut;
       offers = omega (arith, less, ap largest c.reserve_end.ensures.items, c.self.invariant.offers);
-      marked = subst (λ (l : List Piece). IsMarked l c.self.inside.leaving c.self.inside.pending) (sym c.reserve_end.ensures.items) (marked_appended old (used_end old) (end_place old) (end_place old) c.args.need c.self.inside.leaving c.self.inside.pending c.self.invariant.marked);
+      marked = subst (λ (l : List Piece). IsMarked l c.self.inside.leaving c.self.inside.pending) (sym c.reserve_end.ensures.items) (marked_appended c.args.need old c.self.inside.leaving c.self.inside.pending c.self.invariant.marked);
     }
 
 pub returns-then-place-need-clause-there : goal.returns-then-place-need-clause-there
@@ -48,3 +48,14 @@ returns-then-place-need-clause-there c =
     subst (λ (n : ℕ). first (is_reserved_at n) c.reserve_end.new.pieces.items ≡ Some (reserved_piece n c.args.need)) place
     (subst (λ (l : List Piece). first (is_reserved_at (end_place old)) l ≡ Some (reserved_piece (end_place old) c.args.need)) (sym c.reserve_end.ensures.items)
     (appended_found c.args.need old c.self.inside.size c.requires.need c.self.invariant.laid))
+
+pub returns-then-place-need-clause-sound : goal.returns-then-place-need-clause-sound
+returns-then-place-need-clause-sound c =
+    let old = c.self.inside.pieces.items in
+    let place : end_place old ≡ c.align-place.result =
+    sym (c.align-place.ensures ∙ ap aligned_up (c.free_end-end.ensures ∙ ap used_end c.as_slice.ensures.value)) in
+    record {
+      laid = subst (λ (l : List Piece). IsLaid 0 l (c.align-place.result + c.args.need)) (sym c.reserve_end.ensures.items)
+          (subst (λ (n : ℕ). IsLaid 0 (appended c.args.need old) (n + c.args.need)) place
+          (laid_appended c.args.need old c.self.inside.size c.requires.need c.self.invariant.laid));
+    }

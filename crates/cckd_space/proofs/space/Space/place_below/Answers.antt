@@ -1,7 +1,7 @@
-use Rattle.std.proofs.Common.{◌≡◌, ℕ, ◌^◌, ◌<◌, List, length, None, position, refl, sym, ◌∙◌, ap, subst, arith}
+use Rattle.std.proofs.Common.{◌≡◌, ℕ, ◌+◌, ◌^◌, ◌<◌, ◌≤◌, min, IfSome, List, length, None, position, refl, sym, ◌∙◌, ap, subst, arith}
 use Rattle.cckd_space.specs.declared.piece.Piece.{Piece}
 use Rattle.cckd_space.specs.Pieces.{IsLaid, aligned_up, has_room_below, largest, replaced, reserved_in}
-use Rattle.cckd_space.specs.Plan.{Plan, Becomes}
+use Rattle.cckd_space.specs.Plan.{Plan, Becomes, IsClear}
 use Rattle.cckd_space.specs.Inside.{IsMarked, IsShut}
 use Rattle.cckd_space.proofs.LaidLemmas.{laid_below, laid_reserved_in, below_room}
 use Rattle.cckd_space.proofs.SearchLemmas.{laid_order, shut_within, room_open}
@@ -10,6 +10,7 @@ use Rattle.cckd_space.proofs.FirstLemmas.{mapped_none, none_passes, replaced_non
 use Rattle.cckd_space.proofs.NumberLemmas.{small_none}
 use Rattle.cckd_space.proofs.KeptLemmas.{shut_filled, largest_reserved}
 use Rattle.cckd_space.proofs.CallerLemmas.{filled_if}
+use Rattle.cckd_space.proofs.PlaceLemmas.{below_clear, below_within}
 use Rattle.cckd_space.proofs.space.Space.place_below.Goals as goal
 
 pub reserve_below-requires-clause-ends : goal.reserve_below-requires-clause-ends
@@ -52,10 +53,31 @@ invariant_of-self c =
       within = shut_within solid c.reserve_below.new.pieces.items shut;
       shut = shut;
       offers = omega (arith, less, ap largest c.reserve_below.ensures.items, c.self.invariant.offers);
-      marked = subst (λ (l : List Piece). IsMarked l c.self.inside.leaving c.self.inside.pending) (sym c.reserve_below.ensures.items) (marked_filled test c.args.need old c.self.inside.leaving c.self.inside.pending c.self.invariant.marked);
+      marked = subst (λ (l : List Piece). IsMarked l c.self.inside.leaving c.self.inside.pending) (sym c.reserve_below.ensures.items) (marked_filled test c.args.need (λ p e. below_room c.args.need c.args.before p e) old c.self.inside.leaving c.self.inside.pending c.self.invariant.marked);
     }
 
 pub returns-clause-there : goal.returns-clause-there
 returns-clause-there c =
     filled_if (has_room_below c.args.need c.args.before) c.args.need (omega (arith, c.requires.need.some)) (λ p e. below_room c.args.need c.args.before p e) c.self.inside.pieces.items c.reserve_below.new.pieces.items c.self.inside.size c.reserve_below.result
     c.self.invariant.laid c.reserve_below.ensures.place c.reserve_below.ensures.items
+
+pub returns-clause-sound : goal.returns-clause-sound
+returns-clause-sound c =
+    let old = c.self.inside.pieces.items in
+    let test = has_room_below c.args.need c.args.before in
+    record {
+      laid = subst (λ (l : List Piece). IsLaid 0 l c.self.inside.size) (sym c.reserve_below.ensures.items)
+          (laid_reserved_in test c.args.need (omega (arith, c.requires.need.some)) (λ p e. below_room c.args.need c.args.before p e) old c.self.inside.size c.self.invariant.laid);
+    }
+
+pub returns-clause-clear : goal.returns-clause-clear
+returns-clause-clear c =
+    let same = ap (λ (plan : Plan). plan.pieces) (c.self.view_is ∙ c.may_fit.ensures.same) in
+    subst (λ (l : List Piece). IfSome c.reserve_below.result (λ pos. IsClear l pos c.args.need)) same
+    (below_clear c.args.need c.args.before c.self.inside.pieces.items c.self.inside.size c.reserve_below.result c.self.invariant.laid c.reserve_below.ensures.place)
+
+pub returns-clause-within : goal.returns-clause-within
+returns-clause-within c =
+    let same = ap (λ (plan : Plan). plan.size) (c.self.view_is ∙ c.may_fit.ensures.same) in
+    subst (λ (n : ℕ). IfSome c.reserve_below.result (λ pos. pos + c.args.need ≤ min c.args.before n)) same
+    (below_within c.args.need c.args.before c.self.inside.pieces.items c.self.inside.size c.reserve_below.result c.self.invariant.laid c.reserve_below.ensures.place)

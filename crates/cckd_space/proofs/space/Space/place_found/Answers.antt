@@ -28,9 +28,18 @@ invariant_of-self c =
       within = shut_within c.self.inside.solid c.reserve_found.new.pieces.items shut;
       shut = shut;
       offers = omega (arith, less, ap largest c.reserve_found.ensures.items, c.self.invariant.offers);
-      marked = subst (λ (l : List Piece). IsMarked l c.self.inside.leaving c.self.inside.pending) (sym c.reserve_found.ensures.items) (marked_filled test c.args.need old c.self.inside.leaving c.self.inside.pending c.self.invariant.marked);
+      marked = subst (λ (l : List Piece). IsMarked l c.self.inside.leaving c.self.inside.pending) (sym c.reserve_found.ensures.items) (marked_filled test c.args.need (λ p e. e) old c.self.inside.leaving c.self.inside.pending c.self.invariant.marked);
     }
 
 pub returns-clause-there : goal.returns-clause-there
 returns-clause-there c =
     filled_there (has_room c.args.need) c.args.need (omega (arith, c.requires.need)) (λ p e. e) c.self.inside.pieces.items c.reserve_found.new.pieces.items c.self.inside.size c.reserve_found.result c.self.invariant.laid c.reserve_found.ensures.place c.reserve_found.ensures.items
+
+pub returns-clause-sound : goal.returns-clause-sound
+returns-clause-sound c =
+    let old = c.self.inside.pieces.items in
+    let test = has_room c.args.need in
+    record {
+      laid = subst (λ (l : List Piece). IsLaid 0 l c.self.inside.size) (sym c.reserve_found.ensures.items)
+          (laid_reserved_in test c.args.need (omega (arith, c.requires.need)) (λ p e. e) old c.self.inside.size c.self.invariant.laid);
+    }

@@ -30,7 +30,7 @@ invariant_of-self c =
       within = shut_within c.self.inside.solid c.settle_piece.new.pieces.items shut;
       shut = shut;
       offers = omega (arith, less, ap largest c.settle_piece.ensures.items, c.self.invariant.offers);
-      marked = subst (λ (l : List Piece). IsMarked l c.self.inside.leaving c.self.inside.pending) (sym c.settle_piece.ensures.items) (marked_swapped test (settled c.args.len c.args.owner) (λ p. refl) (λ p. refl) old c.self.inside.leaving c.self.inside.pending c.self.invariant.marked);
+      marked = subst (λ (l : List Piece). IsMarked l c.self.inside.leaving c.self.inside.pending) (sym c.settle_piece.ensures.items) (marked_swapped c.args.pos (settled c.args.len c.args.owner) (λ p. refl) (λ p. refl) old c.self.inside.leaving c.self.inside.pending c.self.invariant.marked);
     }
 
 pub returns-clause-there : goal.returns-clause-there
@@ -42,3 +42,14 @@ returns-clause-there c =
     subst (λ (l : List Piece). IfSome (first test l) (λ p. (1 ≤ c.args.len) × (c.args.len ≤ p.size))) (sym same) c.requires.reserved in
     subst (λ (l : List Piece). IfSome (first test l) (λ p. first (is_used_at c.args.pos) c.settle_piece.new.pieces.items ≡ Some (settled c.args.len c.args.owner p))) same
     (settled_if c.args.pos c.args.len c.args.owner old c.settle_piece.new.pieces.items c.self.inside.size fits c.self.invariant.laid c.settle_piece.ensures.items)
+
+pub returns-clause-sound : goal.returns-clause-sound
+returns-clause-sound c =
+    let old = c.self.inside.pieces.items in
+    let test = is_reserved_at c.args.pos in
+    let fits : IfSome (first test old) (λ p. (1 ≤ c.args.len) × (c.args.len ≤ p.size)) =
+    subst (λ (plan : Plan). IfSome (first test plan.pieces) (λ p. (1 ≤ c.args.len) × (c.args.len ≤ p.size))) (sym c.self.view_is) c.requires.reserved in
+    record {
+      laid = subst (λ (l : List Piece). IsLaid 0 l c.self.inside.size) (sym c.settle_piece.ensures.items)
+          (laid_settled test c.args.len c.args.owner old c.self.inside.size fits c.self.invariant.laid);
+    }
