@@ -6,6 +6,7 @@ use crate::host_file::HostFile;
 use crate::streams::{Streams, read_input};
 use cckd_shelf::{Failed, Faults, Kind, Shelf, Shows, Slot, Stage};
 use std::alloc::Global;
+use std::fs::Metadata;
 use std::io;
 
 /// Files of the operating system, standard input and standard output. A failure raises the count of its
@@ -58,7 +59,10 @@ fn bind(
     streams.take_descriptors(rt)?;
     if !files.iter().any(|file| file.has_name(name)) {
         let file = HostFile::open(rt, alloc, name)?;
-        streams.keep_apart(rt, &file);
+        if let Some(found) = file.metadata()? {
+            require_no_other(files, &found)?;
+            streams.keep_apart(rt, &found);
+        }
         files.push(file)?;
     }
     for file in files.iter_mut() {
@@ -67,6 +71,14 @@ fn bind(
         } else {
             file.take_from(slot);
         }
+    }
+    Ok(())
+}
+
+/// A file that another name has is refused: what one name holds would change with the other.
+fn require_no_other(files: &[HostFile], found: &Metadata) -> io::Result<()> {
+    if files.iter().any(|file| file.is_that_of(found)) {
+        return Err(io::ErrorKind::InvalidInput.into());
     }
     Ok(())
 }

@@ -58,13 +58,19 @@ impl HostFile {
         self.name.as_str() == name
     }
 
+    /// What the file is now. None where no file has the name.
+    pub(crate) fn metadata(&self) -> io::Result<Option<Metadata>> {
+        match &self.handle {
+            Handle::Absent => Ok(None),
+            Handle::Reading(file) | Handle::Writing(file) => Ok(Some(file.metadata()?)),
+        }
+    }
+
     /// Whether what was looked at is this file.
     pub(crate) fn is_that_of(&self, other: &Metadata) -> bool {
-        match &self.handle {
-            Handle::Absent => false,
-            Handle::Reading(file) | Handle::Writing(file) => {
-                file.metadata().is_ok_and(|found| is_same(&found, other))
-            }
+        match self.metadata() {
+            Ok(Some(found)) => is_same(&found, other),
+            _ => false,
         }
     }
 
@@ -83,9 +89,9 @@ impl HostFile {
     }
 
     pub(crate) fn len(&self) -> io::Result<u64> {
-        match &self.handle {
-            Handle::Absent => Ok(0),
-            Handle::Reading(file) | Handle::Writing(file) => Ok(file.metadata()?.len()),
+        match self.metadata()? {
+            Some(found) => Ok(found.len()),
+            None => Ok(0),
         }
     }
 
@@ -193,7 +199,7 @@ fn require_regular(found: &Metadata) -> io::Result<()> {
 }
 
 /// Whether both are of one file. One of the two has to be open, so that its number is no other file's.
-fn is_same(one: &Metadata, other: &Metadata) -> bool {
+pub(crate) fn is_same(one: &Metadata, other: &Metadata) -> bool {
     one.dev() == other.dev() && one.ino() == other.ino()
 }
 

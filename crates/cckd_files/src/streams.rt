@@ -1,9 +1,9 @@
 //! Standard input and standard output, and what keeps disk files apart from them.
 ghost use Rattle.std.specs.Prelude.{◌<◌, ◌≤◌, length, IfOk};
 
-use crate::host_file::HostFile;
+use crate::host_file::is_same;
 use std::alloc::Global;
-use std::fs::{self, File};
+use std::fs::{self, File, Metadata};
 use std::io::{self, Read, Write};
 use std::os::fd::AsRawFd;
 
@@ -54,9 +54,9 @@ impl Streams {
     }
 
     /// A bound file that the output writes too would be written over: from then on each put fails.
-    pub(crate) fn keep_apart(&mut self, rt: &HostRuntime, file: &HostFile) {
+    pub(crate) fn keep_apart(&mut self, rt: &HostRuntime, bound: &Metadata) {
         if let Ok(output) = fs::metadata(rt, OUTPUT)
-            && file.is_that_of(&output)
+            && is_same(&output, bound)
         {
             self.is_output_bound = true;
         }
