@@ -3,9 +3,11 @@ ghost use Rattle.std.specs.Prelude.{◌≡◌, ◌+◌, ◌<◌, ◌≤◌, leng
 ghost use Rattle.cckd_shelf.specs.Faults.{no_faults};
 
 use crate::host_file::HostFile;
+use crate::streams::{Streams, read_input};
 use cckd_shelf::{Failed, Faults, Kind, Shelf, Shows, Slot, Stage};
 use std::alloc::Global;
-use std::io::{self, Read, Write};
+use std::fs::Metadata;
+use std::io;
 
 /// Files of the operating system, standard input and standard output. A failure raises the count of its
 /// kind by one.
@@ -13,6 +15,8 @@ use std::io::{self, Read, Write};
 pub struct HostStage {
     rt: HostRuntime,
     alloc: Global,
+    streams: Streams,
+    /// One for each name that was bound, in the order of their first binds.
     files: Vec<HostFile>,
     calls: u64,
     faults: Faults,
@@ -27,6 +31,7 @@ impl HostStage {
         HostStage {
             rt,
             alloc,
+            streams: Streams::new(alloc),
             files: Vec::new(alloc),
             calls: 0,
             faults: Faults::none(),
@@ -41,30 +46,47 @@ fn count_call(calls: &mut u64)
     *calls = calls.saturating_add(1);
 }
 
-/// Gives the slot the file of the name, and takes it from another slot that has it.
+/// Gives the slot the file of the name, and takes it from another slot that has it. No file is opened before the
+/// descriptors of the standard streams are taken.
 fn bind(
     rt: &HostRuntime,
     alloc: Global,
+    streams: &mut Streams,
     files: &mut Vec<HostFile>,
     slot: u8,
     name: &str,
 ) -> io::Result<()> {
-    if files
-        .iter()
-        .any(|file| file.slot == slot && file.has_name(name))
-    {
-        return Ok(());
+    streams.take_descriptors(rt)?;
+    if !files.iter().any(|file| file.has_name(name)) {
+        let file = HostFile::open(rt, alloc, name)?;
+        if let Some(found) = file.metadata()? {
+            require_no_other(files, &found)?;
+            streams.keep_apart(rt, &found);
+        }
+        files.push(file)?;
     }
-    let file = HostFile::open(rt, alloc, slot, name)?;
-    files.retain(|file| file.slot != slot && !file.has_name(name));
-    files.push(file)?;
+    for file in files.iter_mut() {
+        if file.has_name(name) {
+            file.put_in(slot);
+        } else {
+            file.take_from(slot);
+        }
+    }
+    Ok(())
+}
+
+/// A file that another name has is refused: what one name holds would change with the other.
+fn require_no_other(files: &[HostFile], found: &Metadata) -> io::Result<()> {
+    if files.iter().any(|file| file.is_that_of(found)) {
+        return Err(io::ErrorKind::InvalidInput.into());
+    }
     Ok(())
 }
 
 fn place_of(files: &[HostFile], slot: Slot) -> Option<usize>
     ensures { IfSome result (λ at. at < length files.now) }
 {
-    files.iter().position(|file| file.slot == slot.get())
+    files.iter().position(|file| file.is_in(slot.get()))
 }
 
 impl Shows for HostStage {
@@ -84,7 +106,15 @@ impl Shows for HostStage {
 impl Shelf for HostStage {
     fn bind(&mut self, slot: Slot, name: &str) -> Result<(), Failed> {
         count_call(&mut self.calls);
-        match bind(&self.rt, self.alloc, &mut self.files, slot.get(), name) {
+        let outcome = bind(
+            &self.rt,
+            self.alloc,
+            &mut self.streams,
+            &mut self.files,
+            slot.get(),
+            name,
+        );
+        match outcome {
             Ok(()) => Ok(()),
             Err(_) => Err(self.faults.raise(Kind::Reads)),
         }
@@ -152,7 +182,7 @@ impl Shelf for HostStage {
 impl Stage for HostStage {
     fn take(&mut self, into: &mut [u8]) -> Result<usize, Failed> {
         count_call(&mut self.calls);
-        match read_some(&self.rt, into) {
+        match read_input(&self.rt, into) {
             Ok(n) => Ok(n),
             Err(_) => Err(self.faults.raise(Kind::Takes)),
         }
@@ -160,40 +190,9 @@ impl Stage for HostStage {
 
     fn put(&mut self, bytes: &[u8]) -> Result<usize, Failed> {
         count_call(&mut self.calls);
-        match write_some(&self.rt, bytes) {
+        match self.streams.write(&self.rt, bytes) {
             Ok(n) => Ok(n),
             Err(_) => Err(self.faults.raise(Kind::Puts)),
         }
     }
-}
-
-/// Reads from standard input, again where that was interrupted.
-fn read_some(rt: &HostRuntime, into: &mut [u8]) -> io::Result<usize>
-    ensures { IfOk result (λ n. n ≤ length into.old) }
-{
-    for _ in 0..u64::MAX {
-        match rt.stdin().read(into) {
-            Ok(n) => return Ok(n),
-            Err(error) if error.kind() == io::ErrorKind::Interrupted => {}
-            Err(error) => return Err(error),
-        }
-    }
-    Err(io::ErrorKind::Interrupted.into())
-}
-
-/// Writes to standard output, again where that was interrupted. Of a piece that isn't empty it has to
-/// take a byte.
-fn write_some(rt: &HostRuntime, bytes: &[u8]) -> io::Result<usize>
-    ensures fits { IfOk result (λ n. n ≤ length bytes.now) }
-    ensures some { IfOk result (λ n. 0 < length bytes.now → 0 < n) }
-{
-    for _ in 0..u64::MAX {
-        match rt.stdout().write(bytes) {
-            Ok(0) if !bytes.is_empty() => return Err(io::ErrorKind::WriteZero.into()),
-            Ok(n) => return Ok(n),
-            Err(error) if error.kind() == io::ErrorKind::Interrupted => {}
-            Err(error) => return Err(error),
-        }
-    }
-    Err(io::ErrorKind::Interrupted.into())
 }

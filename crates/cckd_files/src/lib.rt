@@ -4,6 +4,9 @@
 mod host;
 mod host_file;
 mod sending;
+mod streams;
+#[cfg(test)]
+mod tests;
 
 pub use host::HostStage;
 pub use sending::host_stage_is_send;

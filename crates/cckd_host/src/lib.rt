@@ -1,22 +1,49 @@
 //! A run over the process's own words, files and standard streams.
 #![tactic(auto)]
 
+ghost use Rattle.cckd_host.specs.Words.{IsRun};
+ghost use Rattle.cckd_shelf.specs.Seen.{seen};
+ghost use Rattle.cckd_top.specs.Explained.{IsExplained};
+
+mod source;
+#[cfg(test)]
+mod tests;
 mod words;
 
-use cckd_shelf::HostStage;
+use cckd_files::HostStage;
+use cckd_shelf::{Stage, put_all};
 use cckd_top::run_plain;
+pub use source::WordSource;
+use std::alloc::Global;
 use std::process::ExitCode;
+pub use words::words_of;
 
 /// The status where memory for the words is wanted.
 const NO_MEMORY: u8 = 8;
 
+/// Runs on this stage with the words of a source, and answers the status. Where there was no memory for the words, it says so.
+pub fn run_from<T: Stage, W: WordSource>(stage: T, alloc: Global, source: &W) -> (T, u8)
+    ensures { IsRun W.tells (W.words source.now)
+        (λ words. IsExplained (seen T.Shows stage) (seen T.Shows result.0) words result.1)
+        (seen T.Shows stage) (seen T.Shows result.0) result.1 }
+{
+    let mut stage = stage;
+    match words_of(source, alloc) {
+        Ok(words) => {
+            let (stage, status) = run_plain(stage, alloc, &words);
+            (stage, status.code)
+        }
+        Err(_) => {
+            // Where that can't be put either, the status says it.
+            let _ = put_all(&mut stage, b"no memory\n");
+            (stage, NO_MEMORY)
+        }
+    }
+}
+
 /// Runs the words behind the program's name, and answers the status that the process ends with.
 pub fn run(rt: HostRuntime) -> ExitCode {
     let alloc = rt.alloc();
-    let Ok(words) = words::words_of(&rt, alloc) else {
-        let _ = println!(rt; "no memory");
-        return ExitCode::from(NO_MEMORY);
-    };
-    let (_stage, status) = run_plain(HostStage::new(rt, alloc), alloc, &words);
-    ExitCode::from(status.code)
+    let (_stage, status) = run_from(HostStage::new(rt, alloc), alloc, &rt);
+    ExitCode::from(status)
 }

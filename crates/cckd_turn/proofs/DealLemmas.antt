@@ -10,8 +10,8 @@ use Rattle.atomic_table.proofs.Lists.{at_set, at_snoc}
 use Rattle.cckd_turn.specs.Entries.{entries_of, total, one_if}
 use Rattle.cckd_turn.specs.Views.{with_ticket, has_turn, times, new_names, opening_view, after_dealing, dealt, joined, spent}
 use Rattle.cckd_turn.specs.Rule.{has_ticket, has_number, turns, left, IsInTurn, Fits, IsKept}
-use Rattle.cckd_turn.specs.declared.view.Stage.{Stage}
-use Rattle.cckd_turn.specs.declared.view.Stage.TheVariants.{Idle, Waiting, Holding, Returning}
+use Rattle.cckd_turn.specs.declared.view.PassState.{PassState}
+use Rattle.cckd_turn.specs.declared.view.PassState.TheVariants.{Idle, Waiting, Holding, Returning}
 use Rattle.cckd_turn.specs.declared.view.Terms.{Terms}
 use Rattle.cckd_turn.specs.declared.view.View.{View}
 use Rattle.cckd_turn.proofs.EntryLemmas.{total-append, total-set, one_of_total, two_of_total, none_of, as_one, as_none, each_append}
@@ -56,7 +56,7 @@ module _ {V E : Type 0} (stands : V → List E → Type 0) (by : E → ℕ) (ter
       first (suc id) v at = absurd (maybe.some-ne-none v (sym at))
 
   -- a number is dealt to a new seat
-  pub deals : (id : ℕ) (v : View E) → v.stage ≡ Idle → v.each ≤ v.left → Splits Kept id v (after_dealing v) (dealt v)
+  pub deals : (id : ℕ) (v : View E) → v.state ≡ Idle → v.each ≤ v.left → Splits Kept id v (after_dealing v) (dealt v)
   deals id v idle enough s k at =
       let w = after_dealing v in
       let d = dealt v in
@@ -98,7 +98,7 @@ module _ {V E : Type 0} (stands : V → List E → Type 0) (by : E → ℕ) (ter
       }
 
   -- a seat takes in another's numbers, and what it had seen
-  pub joins : (id : ℕ) (v : View E) (other : ℕ) (x : View E) → v.stage ≡ Idle → x.stage ≡ Idle → Joins Kept id v other x (joined v x) spent
+  pub joins : (id : ℕ) (v : View E) (other : ℕ) (x : View E) → v.state ≡ Idle → x.state ≡ Idle → Joins Kept id v other x (joined v x) spent
   joins id v other x idle idle' s k at apart there =
       let w = joined v x in
       let f = k.fits id v at in
@@ -107,7 +107,7 @@ module _ {V E : Type 0} (stands : V → List E → Type 0) (by : E → ℕ) (ter
       let views : List (View E) = set (set s.views id w) other spent in
       let sum : (h : View E → ℕ) → total h views + h x + h v ≡ total h s.views + h w + h spent =
       λ h. omega (arith, total-set h s.views id v w at, total-set h (set s.views id w) other x spent there) in
-      let out : (t : ℕ) → has_ticket t x ≡ 0 = λ t. ap (λ (q : Stage). with_ticket q (one_if (eqb x.ticket t))) idle' in
+      let out : (t : ℕ) → has_ticket t x ≡ 0 = λ t. ap (λ (q : PassState). with_ticket q (one_if (eqb x.ticket t))) idle' in
       let tickets : (t : ℕ) → total (has_ticket t) views ≡ total (has_ticket t) s.views = λ t. omega (arith, sum (has_ticket t), out t) in
       let numbers : (n : ℕ) → total (has_number n) views ≡ total (has_number n) s.views = λ n. omega (arith, sum (has_number n), times-append n v.names x.names) in
       let no_turn : turns x ≡ 0 = ap has_turn idle' in
@@ -140,19 +140,19 @@ module _ {V E : Type 0} (stands : V → List E → Type 0) (by : E → ℕ) (ter
   first_of [] some = absurd (omega arith)
   first_of (x ∷ xs) some = (x.0, (let one = as_one x.0 x.0 refl in omega arith))
 
-  name_in_turn : (homes : Homes) (log : List E) (u : View E) (g : Stage) → 0 < has_turn g → IsInTurn stands homes log u g → 0 < length u.names
+  name_in_turn : (homes : Homes) (log : List E) (u : View E) (g : PassState) → 0 < has_turn g → IsInTurn stands homes log u g → 0 < length u.names
   name_in_turn homes log u Idle some h = absurd (omega arith)
   name_in_turn homes log u Waiting some h = absurd (omega arith)
   name_in_turn homes log u Holding some h = h.0
   name_in_turn homes log u Returning some h = h.0
 
   -- once an idle view has every number, nobody has the turn
-  pub nobody_left : (s : State (Option V) (View E)) (k : Kept s) (id : ℕ) (v : View E) → get_elem? s.views id ≡ maybe.some v → v.stage ≡ Idle
+  pub nobody_left : (s : State (Option V) (View E)) (k : Kept s) (id : ℕ) (v : View E) → get_elem? s.views id ≡ maybe.some v → v.state ≡ Idle
       → ((n : ℕ) → n < terms.callers → 0 < times n v.names) → total turns s.views ≡ 0
   nobody_left s k id v at idle every = total_none turns s.views (λ j u there.
       dite (ℕ_discrete j id)
       (λ same. ap turns (maybe.some-injective u v (sym there ∙ (ap (get_elem? s.views) same ∙ at))) ∙ ap has_turn idle)
       (λ apart. none_of (turns u) (λ some.
-      let number = first_of u.names (name_in_turn s.homes k.log u u.stage some (k.fits j u there).turn) in
+      let number = first_of u.names (name_in_turn s.homes k.log u u.state some (k.fits j u there).turn) in
       let caller = k.number_of_caller number.0 (omega (arith, number.1, one_of_total (has_number number.0) s.views j u there)) in
       absurd (omega (arith, number.1, every number.0 caller, k.number_once number.0 caller, two_of_total (has_number number.0) s.views id j v u apart at there)))))

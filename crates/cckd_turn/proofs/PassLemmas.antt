@@ -2,7 +2,7 @@
 use Rattle.std.proofs.Common.{◌≡◌, ◌⊎◌, inl, inr, ⊎_elim, ℕ, zero, suc, ◌+◌, ◌-◌, ◌*◌, ◌≤◌, List, [], ◌∷◌, ◌++◌, length, refl, sym, ap, ◌∙◌, subst, arith, Some, suc-mul}
 use Rattle.std.specs.Prelude.{slice_get}
 use Rattle.cckd_turn.specs.Views.{first_own, new_names, blank, after_dealing}
-use Rattle.cckd_turn.specs.Passes.{known, view_of, callers_of, calls_each_of, table_id_of, IsNew}
+use Rattle.cckd_turn.specs.Passes.{number_of, known, view_of, callers_of, calls_each_of, table_id_of, IsNew}
 use Rattle.cckd_turn.specs.declared.view.Terms.{Terms}
 use Rattle.cckd_turn.specs.declared.view.View.{View}
 use Rattle.cckd_turn.specs.declared.pass.Pass.{Pass}
@@ -65,7 +65,7 @@ module _ {E : Type 0} where
 
 module _ {V E : Type 0} (t : TurnTable V E) where
   pub is_new : (k : ℕ) (p : Pass E) (v : View E) → p.badge.views ≡ v ∷ [] → p.badge.table_id ≡ table_id_of t
-      → v ≡ blank (callers_of t) (calls_each_of t) (calls_each_of t) ((k, []) ∷ []) → p.number ≡ k → p.left ≡ calls_each_of t → p.front ≡ 0 → IsNew t k p
+      → v ≡ blank (callers_of t) (calls_each_of t) (calls_each_of t) ((k, []) ∷ []) → number_of p ≡ k → p.left ≡ calls_each_of t → p.front ≡ 0 → IsNew t k p
   is_new k p v here table fresh number left front =
       let is : view_of p ≡ blank (callers_of t) (calls_each_of t) (calls_each_of t) ((k, []) ∷ []) = ap known here ∙ fresh in
       let own = ap (λ (u : View E). first_own u.names) is in
@@ -73,8 +73,8 @@ module _ {V E : Type 0} (t : TurnTable V E) where
         resting = record {
           here = here ∙ ap (λ (u : View E). u ∷ []) (sym (ap known here));
           table = table;
-          idle = ap (λ (u : View E). u.stage) is;
-          name = ap (λ (u : View E). u.names) is ∙ (ap (λ (n : ℕ). (n, []) ∷ []) (sym number) ∙ ap (λ (l : List E). (p.number, l) ∷ []) (sym own));
+          idle = ap (λ (u : View E). u.state) is;
+          name = ap (λ (u : View E). u.names) is ∙ (ap (λ (n : ℕ). (n, []) ∷ []) (sym number) ∙ ap (λ (l : List E). (number_of p, l) ∷ []) (sym own));
           left = ap (λ (u : View E). u.left) is ∙ sym left;
           front = ap (λ (u : View E). length u.seen) is ∙ sym front;
           callers = ap (λ (u : View E). u.callers) is;
@@ -91,7 +91,7 @@ module _ {V E : Type 0} (t : TurnTable V E) where
   -- a pass that was just made of the seat `seat`
   pub made_new : (terms : Terms) (k number : ℕ) (p : Pass E) (v : View E) → terms ≡ t.table.shared.key → k ≡ number
       → p.badge.views ≡ v ∷ [] → p.badge.table_id ≡ table_id_of t → v ≡ blank terms.callers terms.each terms.each ((number, []) ∷ [])
-      → p.number ≡ number → p.left ≡ terms.each → p.front ≡ 0 → IsNew t k p
+      → number_of p ≡ number → p.left ≡ terms.each → p.front ≡ 0 → IsNew t k p
   made_new terms k number p v is at here table fresh numbered left front =
       is_new k p v here table
       (fresh ∙ (ap (λ (x : Terms). blank x.callers x.each x.each ((number, []) ∷ [])) is ∙ ap (λ (n : ℕ). blank (callers_of t) (calls_each_of t) (calls_each_of t) ((n, []) ∷ [])) (sym at)))

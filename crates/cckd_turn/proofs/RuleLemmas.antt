@@ -12,8 +12,8 @@ use Rattle.cckd_turn.specs.Entries.{total, one_if}
 use Rattle.cckd_turn.specs.Views.{with_ticket, has_turn, waiting, refused, looking}
 use Rattle.cckd_turn.specs.Rule.{has_ticket, has_number, turns, left, IsInTurn, Fits, IsKept}
 use Rattle.cckd_turn.specs.Steps.{Sat, drawn, tried, looked}
-use Rattle.cckd_turn.specs.declared.view.Stage.{Stage}
-use Rattle.cckd_turn.specs.declared.view.Stage.TheVariants.{Idle, Waiting, Holding, Returning}
+use Rattle.cckd_turn.specs.declared.view.PassState.{PassState}
+use Rattle.cckd_turn.specs.declared.view.PassState.TheVariants.{Idle, Waiting, Holding, Returning}
 use Rattle.cckd_turn.specs.declared.view.Terms.{Terms}
 use Rattle.cckd_turn.specs.declared.view.View.{View}
 use Rattle.cckd_turn.proofs.EntryLemmas.{total-set, none_of, as_one, as_none}
@@ -49,12 +49,12 @@ module _ {V E : Type 0} (stands : V → List E → Type 0) (by : E → ℕ) wher
 
     -- a view that draws the next ticket
     pub kept_after_drawing : (s : State (Option V) (View E)) (id up : ℕ) (v : View E) (k : Kept s) → up ≡ k.next + 1 → get_elem? s.views id ≡ maybe.some v
-        → v.stage ≡ Idle → 0 < v.left → 0 < length v.names
+        → v.state ≡ Idle → 0 < v.left → 0 < length v.names
         → Kept (record { words = up ∷ length k.log ∷ []; homes = s.homes; views = set s.views id (waiting v k.next) })
     kept_after_drawing s id up v k is_up at idle some_left some_name =
         let w = waiting v k.next in
         let lefts = total-set left s.views id v w at in
-        let was_out : (t : ℕ) → has_ticket t v ≡ 0 = λ t. ap (λ (g : Stage). with_ticket g (one_if (eqb v.ticket t))) idle in
+        let was_out : (t : ℕ) → has_ticket t v ≡ 0 = λ t. ap (λ (g : PassState). with_ticket g (one_if (eqb v.ticket t))) idle in
         let old_turn : turns v ≡ 0 = ap has_turn idle in
         let sum : (t : ℕ) → total (has_ticket t) (set s.views id w) ≡ total (has_ticket t) s.views + one_if (eqb k.next t) = λ t. omega (arith, total-set (has_ticket t) s.views id v w at, was_out t) in
         record {
@@ -101,19 +101,19 @@ module _ {V E : Type 0} (stands : V → List E → Type 0) (by : E → ℕ) wher
           home = λ nobody. k.home (omega (arith, sum turns turn));
         }
 
-    turn_after_look : (homes : Homes) (log : List E) (v : View E) (r : ℕ) (g : Stage) → IsInTurn stands homes log v g → IsInTurn stands homes log (looking v log r) g
+    turn_after_look : (homes : Homes) (log : List E) (v : View E) (r : ℕ) (g : PassState) → IsInTurn stands homes log v g → IsInTurn stands homes log (looking v log r) g
     turn_after_look homes log v r Idle h = tt
     turn_after_look homes log v r Waiting h = h
     turn_after_look homes log v r Holding h = (h.0, h.1, refl)
     turn_after_look homes log v r Returning h = (h.0, h.1, refl, h.3)
 
-    turn_after_refusal : (homes : Homes) (log : List E) (v : View E) (r : ℕ) (g : Stage) → IsInTurn stands homes log v g → IsInTurn stands homes log (refused v r) g
+    turn_after_refusal : (homes : Homes) (log : List E) (v : View E) (r : ℕ) (g : PassState) → IsInTurn stands homes log v g → IsInTurn stands homes log (refused v r) g
     turn_after_refusal homes log v r Idle h = tt
     turn_after_refusal homes log v r Waiting h = h
     turn_after_refusal homes log v r Holding h = h
     turn_after_refusal homes log v r Returning h = h
 
-    pub draws : (slots id : ℕ) (m : Sat V E) → m.0.stage ≡ Idle → 0 < m.0.left → 0 < length m.0.names
+    pub draws : (slots id : ℕ) (m : Sat V E) → m.0.state ≡ Idle → 0 < m.0.left → 0 < length m.0.names
         → Allows Kept slots id m 0 (λ n. (n + 1) % 2 ^ 64) (drawn m)
     draws slots id m idle some_left some_name s k wide at small =
         let v = m.0 in
@@ -123,7 +123,7 @@ module _ {V E : Type 0} (stands : V → List E → Type 0) (by : E → ℕ) wher
         subst Goes (sym k.words)
         (waiting v k.next, keeps, tt, kept_after_drawing s id _ v k (unwrapped k.next (omega (arith, k.room, k.bounded))) at idle some_left some_name, refl)
 
-    pub tries : (slots id old : ℕ) (m : Sat V E) → m.0.stage ≡ Idle → 0 < m.0.left → 0 < length m.0.names
+    pub tries : (slots id old : ℕ) (m : Sat V E) → m.0.state ≡ Idle → 0 < m.0.left → 0 < length m.0.names
         → Allows Kept slots id m 0 (λ n. either (eqb n old) (old + 1) n) (tried old m)
     tries slots id old m idle some_left some_name s k wide at small =
         let v = m.0 in
@@ -141,7 +141,7 @@ module _ {V E : Type 0} (stands : V → List E → Type 0) (by : E → ℕ) wher
           keeps,
           tt,
           kept_after_change s id v (refused v k.next) k at (λ t. refl) (λ n. refl) refl refl
-              (record { seen = f.seen; heard = f.heard; own = f.own; turn = turn_after_refusal s.homes k.log v k.next v.stage f.turn }),
+              (record { seen = f.seen; heard = f.heard; own = f.own; turn = turn_after_refusal s.homes k.log v k.next v.state f.turn }),
           ((λ e. absurd (apart e)), (λ e. refl)),
         )))
 
@@ -158,6 +158,6 @@ module _ {V E : Type 0} (stands : V → List E → Type 0) (by : E → ℕ) wher
           keeps,
           tt,
           kept_after_change s id v w k at (λ t. refl) (λ n. refl) refl refl
-              (record { seen = front_self k.log; heard = f.heard; own = f.own; turn = turn_after_look s.homes k.log v (length k.log) v.stage f.turn }),
+              (record { seen = front_self k.log; heard = f.heard; own = f.own; turn = turn_after_look s.homes k.log v (length k.log) v.state f.turn }),
           (k.log, refl, refl, omega (arith, k.behind, k.room, k.bounded), f.seen, f.own),
         )

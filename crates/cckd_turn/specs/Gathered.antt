@@ -1,6 +1,6 @@
 -- What a seat knows that has taken in other passes.
 use Rattle.std.specs.Prelude.{◌≡◌, ℕ, List, [], ◌∷◌, ◌⊎◌, Some, slice_get}
-use Rattle.cckd_turn.specs.declared.view.Stage.TheVariants.{Idle}
+use Rattle.cckd_turn.specs.declared.view.PassState.TheVariants.{Idle}
 use Rattle.cckd_turn.specs.declared.view.View.{View}
 use Rattle.cckd_turn.specs.declared.pass.Pass.{Pass}
 use Rattle.cckd_turn.specs.Passes.{number_of, seen_by, own_of}
@@ -16,5 +16,5 @@ module _ {E : Type 0} where
   HasTakenIn p v = Among (number_of p, own_of p) v.names × Among (seen_by p) (v.seen ∷ v.heard)
 
   pub record HasAll (passes : List (Pass E)) (v : View E) : Type 0 where
-    pub idle : v.stage ≡ Idle
+    pub idle : v.state ≡ Idle
     pub each : (k : ℕ) (p : Pass E) → slice_get passes k ≡ Some p → HasTakenIn p v

@@ -5,7 +5,7 @@ use Rattle.atomic_table.specs.Seated.{TableId}
 use Rattle.atomic_table.specs.declared.shared.Seat.{Seat}
 use Rattle.cckd_turn.specs.Entries.{entries_of}
 use Rattle.cckd_turn.specs.Views.{spent, first_own}
-use Rattle.cckd_turn.specs.declared.view.Stage.TheVariants.{Idle, Holding}
+use Rattle.cckd_turn.specs.declared.view.PassState.TheVariants.{Idle, Holding}
 use Rattle.cckd_turn.specs.declared.view.View.{View}
 use Rattle.cckd_turn.specs.declared.pass.Pass.{Pass}
 use Rattle.cckd_turn.specs.declared.pass.Taken.{Taken}
@@ -91,8 +91,8 @@ module _ {V E : Type 0} where
   pub record IsResting (t : TurnTable V E) (p : Pass E) : Type 0 where
     pub here : p.badge.views ≡ view_of p ∷ []
     pub table : p.badge.table_id ≡ table_id_of t
-    pub idle : (view_of p).stage ≡ Idle
-    pub name : (view_of p).names ≡ (p.number, own_of p) ∷ []
+    pub idle : (view_of p).state ≡ Idle
+    pub name : (view_of p).names ≡ (number_of p, own_of p) ∷ []
     pub left : (view_of p).left ≡ p.left
     pub front : length (seen_by p) ≡ p.front
     pub callers : (view_of p).callers ≡ callers_of t
@@ -103,8 +103,8 @@ module _ {V E : Type 0} where
     pub out : p.badge.views ≡ []
     pub table : seat.table_id ≡ table_id_of t
     pub slot : seat.me.1 ≡ (0, None) ∷ []
-    pub holding : seat.me.0.stage ≡ Holding
-    pub name : seat.me.0.names ≡ (p.number, first_own seat.me.0.names) ∷ []
+    pub holding : seat.me.0.state ≡ Holding
+    pub name : seat.me.0.names ≡ (number_of p, first_own seat.me.0.names) ∷ []
     pub left : seat.me.0.left ≡ p.left
     pub callers : seat.me.0.callers ≡ callers_of t
     pub each : seat.me.0.each ≡ calls_each_of t

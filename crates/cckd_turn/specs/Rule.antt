@@ -6,20 +6,20 @@ use lib.ListN.{get_elem?}
 use Rattle.atomic_table.specs.Table.{State}
 use Rattle.cckd_turn.specs.Entries.{Each, total, one_if, Owns}
 use Rattle.cckd_turn.specs.Views.{with_ticket, has_turn, times}
-use Rattle.cckd_turn.specs.declared.view.Stage.{Stage}
-use Rattle.cckd_turn.specs.declared.view.Stage.TheVariants.{Idle, Waiting, Holding, Returning}
+use Rattle.cckd_turn.specs.declared.view.PassState.{PassState}
+use Rattle.cckd_turn.specs.declared.view.PassState.TheVariants.{Idle, Waiting, Holding, Returning}
 use Rattle.cckd_turn.specs.declared.view.Terms.{Terms}
 use Rattle.cckd_turn.specs.declared.view.View.{View}
 
 module _ {E : Type 0} where
   abbrev pub has_ticket : ℕ → View E → ℕ
-  has_ticket t v = with_ticket v.stage (one_if (v.ticket == t))
+  has_ticket t v = with_ticket v.state (one_if (v.ticket == t))
 
   abbrev pub has_number : ℕ → View E → ℕ
   has_number n v = times n v.names
 
   abbrev pub turns : View E → ℕ
-  turns v = has_turn v.stage
+  turns v = has_turn v.state
 
   abbrev pub left : View E → ℕ
   left v = v.left
@@ -30,7 +30,7 @@ module _ {V E : Type 0} (stands : V → List E → Type 0) where
   IsHome homes log = (value : V) × (get_elem? homes 0 ≡ maybe.some (maybe.some (Some value))) × stands value log
 
   -- Who holds the value or has just put it back is served, has a name, and has seen the whole list
-  abbrev pub IsInTurn : List (maybe.Option (Option V)) → List E → View E → Stage → Type 0
+  abbrev pub IsInTurn : List (maybe.Option (Option V)) → List E → View E → PassState → Type 0
   IsInTurn homes log v Idle = Unit {0}
   IsInTurn homes log v Waiting = 0 < length v.names
   IsInTurn homes log v Holding = (0 < length v.names) × (v.ticket ≡ length log) × (v.seen ≡ log)
@@ -42,7 +42,7 @@ module _ {V E : Type 0} (stands : V → List E → Type 0) where
       pub seen : IsPrefix v.seen log
       pub heard : Each (λ xs. IsPrefix xs log) v.heard
       pub own : Owns by log v.names
-      pub turn : IsInTurn homes log v v.stage
+      pub turn : IsInTurn homes log v v.state
 
     pub record IsKept (terms : Terms) (s : State (Option V) (View E)) : Type 0 where
       pub log : List E

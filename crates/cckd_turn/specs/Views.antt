@@ -1,20 +1,20 @@
 -- What a pass knows, and how it changes. The views exist for the proofs alone.
 use Rattle.std.specs.Prelude.{ℕ, zero, suc, ◌+◌, ◌-◌, ◌*◌, ◌==◌, List, [], ◌∷◌, ◌++◌}
 use Rattle.cckd_turn.specs.Entries.{one_if}
-use Rattle.cckd_turn.specs.declared.view.Stage.{Stage}
-use Rattle.cckd_turn.specs.declared.view.Stage.TheVariants.{Idle, Waiting, Holding, Returning}
+use Rattle.cckd_turn.specs.declared.view.PassState.{PassState}
+use Rattle.cckd_turn.specs.declared.view.PassState.TheVariants.{Idle, Waiting, Holding, Returning}
 use Rattle.cckd_turn.specs.declared.view.Terms.{Terms}
 use Rattle.cckd_turn.specs.declared.view.View.{View}
 
 -- n where the view has a ticket, and 0 where it is idle
-abbrev pub with_ticket : Stage → ℕ → ℕ
+abbrev pub with_ticket : PassState → ℕ → ℕ
 with_ticket Idle n = 0
 with_ticket Waiting n = n
 with_ticket Holding n = n
 with_ticket Returning n = n
 
 -- 1 where the value is out with the view, or is only just home from it
-abbrev pub has_turn : Stage → ℕ
+abbrev pub has_turn : PassState → ℕ
 has_turn Idle = 0
 has_turn Waiting = 0
 has_turn Holding = 1
@@ -57,7 +57,7 @@ module _ {E : Type 0} where
   abbrev pub blank : ℕ → ℕ → ℕ → List (ℕ × List E) → View E
   blank callers each left names =
       record {
-        stage = Idle;
+        state = Idle;
         callers = callers;
         each = each;
         left = left;
@@ -91,7 +91,7 @@ module _ {E : Type 0} where
   joined v w = record v { heard = v.heard ++ w.seen ∷ w.heard; names = v.names ++ w.names }
 
   abbrev pub waiting : View E → ℕ → View E
-  waiting v ticket = record v { stage = Waiting; ticket = ticket; left = v.left - 1 }
+  waiting v ticket = record v { state = Waiting; ticket = ticket; left = v.left - 1 }
 
   abbrev pub refused : View E → ℕ → View E
   refused v found = record v { found = found; tries = v.tries + 1 }
@@ -104,10 +104,10 @@ module _ {E : Type 0} where
   looking v log serving = seen_until v log serving (v.looks + 1)
 
   abbrev pub holding : View E → View E
-  holding v = record v { stage = Holding }
+  holding v = record v { state = Holding }
 
   abbrev pub returning : View E → List E → View E
-  returning v made = record v { stage = Returning; made = made }
+  returning v made = record v { state = Returning; made = made }
 
   abbrev pub served : View E → View E
-  served v = record v { stage = Idle; seen = v.seen ++ v.made; names = with_made v.made v.names }
+  served v = record v { state = Idle; seen = v.seen ++ v.made; names = with_made v.made v.names }

@@ -1,6 +1,7 @@
 //! A value that callers use one after another, by tickets, with a history of who used it.
 #![tactic(auto)]
 
+mod bells;
 mod crossing;
 mod pass;
 mod plays;
@@ -10,6 +11,8 @@ mod table;
 mod tests;
 mod turn;
 mod view;
+#[cfg(test)]
+mod wait_tests;
 
 pub use crossing::cross_threads;
 pub use pass::{Busy, Pass, Receipt, Taken};

@@ -28,6 +28,8 @@ impl<E> Drop for Pass<E> {
 /// The value, while a pass has the turn. It has no `Drop`, so that it ends in `leave`.
 pub struct Taken<V: Stands> {
     pub value: V,
+    /// How often the call looked which ticket is served.
+    pub looks: u64,
     pub(crate) seat: Seat<Option<V>, View<V::Entry>>,
 }
 

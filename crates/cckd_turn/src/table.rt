@@ -2,6 +2,7 @@
 ghost use Rattle.std.specs.Prelude.{◌≡◌, ◌*◌, ◌^◌, ◌<◌, ◌≤◌, [], IfOk, IfErr, vec_capacity};
 ghost use Rattle.cckd_turn.specs.Views.{opening_view};
 
+use crate::bells::Bells;
 use crate::pass::Pass;
 use crate::plays::{Deal, Turns};
 use crate::stands::Stands;
@@ -16,6 +17,7 @@ pub type Memory = AllocError;
 #[derive(Drop)]
 pub struct TurnTable<V: Stands> {
     pub(crate) table: Table<Option<V>, View<V::Entry>, Terms, Turns, Global>,
+    pub(crate) bells: Bells,
     ghost words: { table.shared.table_id.words ≡ 2 },
     ghost slots: { table.shared.table_id.slots ≡ 1 },
     ghost callers: { 0 < table.shared.key.callers },
@@ -25,6 +27,7 @@ pub struct TurnTable<V: Stands> {
 fn lay<V: Stands>(
     alloc: Global,
     value: V,
+    bells: Bells,
     terms: &Terms,
 ) -> Result<(TurnTable<V>, Seat<Option<V>, View<V::Entry>>), V>
     requires callers { 0 < terms.now.callers }
@@ -40,7 +43,7 @@ fn lay<V: Stands>(
     };
     slots.push_reserved(Some(value));
     match Table::new(alloc, &[0, 0], slots, terms) {
-        Ok((table, seat)) => Ok((TurnTable { table }, seat)),
+        Ok((table, seat)) => Ok((TurnTable { table, bells }, seat)),
         Err(Refused { mut slots }) => {
             let Some(Some(value)) = slots.pop() else {
                 unreachable!()
@@ -74,7 +77,10 @@ impl<V: Stands> TurnTable<V> {
         let Ok(passes) = Vec::with_capacity(alloc, callers as usize) else {
             return Err((value, AllocError));
         };
-        match lay(alloc, value, &terms) {
+        let Ok(bells) = Bells::new(alloc, callers) else {
+            return Err((value, AllocError));
+        };
+        match lay(alloc, value, bells, &terms) {
             Ok((table, seat)) => {
                 let passes = table.deal(seat, passes, terms);
                 Ok((table, passes))
@@ -116,7 +122,7 @@ impl<V: Stands> TurnTable<V> {
         ensures { Closes V.stands V.by passes.items result }
     {
         let seat = self.gather(passes);
-        let TurnTable { table } = self;
+        let TurnTable { table, bells: _ } = self;
         let mut closed = table.close_with(seat);
         let Some(value) = closed.take(0) else {
             unreachable!()

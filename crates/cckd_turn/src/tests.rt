@@ -10,8 +10,8 @@ use std::thread::{self, Threads};
 
 // How many calls were made. An entry is the number of the pass that made the call.
 #[derive(Drop)]
-struct Counter {
-    count: u64,
+pub(crate) struct Counter {
+    pub count: u64,
 }
 
 impl Stands for Counter {
@@ -23,7 +23,7 @@ impl Stands for Counter {
 }
 
 // Which pass makes a call.
-trait Caller {
+pub(crate) trait Caller {
     ghost number: { ℕ };
 }
 
@@ -40,7 +40,7 @@ impl<C: Caller> Adds<u64> for Counted<C> {
 }
 
 // Counts the call, and gives the counter back.
-fn finish<C: Caller>(
+pub(crate) fn finish<C: Caller>(
     table: &TurnTable<Counter>,
     pass: &mut Pass<u64>,
     mut taken: Taken<Counter>,
@@ -70,7 +70,7 @@ fn count<R: Wait>(rt: &R, table: &TurnTable<Counter>, pass: &mut Pass<u64>) -> R
     finish::<Brand>(table, pass, taken)
 }
 
-fn try_count(table: &TurnTable<Counter>, pass: &mut Pass<u64>) -> Result<Receipt, Busy>
+pub(crate) fn try_count(table: &TurnTable<Counter>, pass: &mut Pass<u64>) -> Result<Receipt, Busy>
     requires own { IsResting table.now pass.old }
     requires calls { 0 < left_of pass.old }
     ensures back { IsResting table.now pass.new }
@@ -125,7 +125,7 @@ fn closed(
     Ok(table.close(passes))
 }
 
-fn triple(mut passes: Vec<Pass<u64>>) -> Option<(Pass<u64>, Pass<u64>, Pass<u64>)>
+pub(crate) fn triple(mut passes: Vec<Pass<u64>>) -> Option<(Pass<u64>, Pass<u64>, Pass<u64>)>
     requires { length passes.items ≡ 3 }
     ensures { IfSome result (λ r. passes.items ≡ r.0 ∷ r.1 ∷ r.2 ∷ []) }
 {

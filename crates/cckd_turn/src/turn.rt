@@ -1,6 +1,6 @@
 //! A call: taking the value, and giving it back.
 ghost use Rattle.std.specs.Prelude.{◌≡◌, ◌≢◌, ◌+◌, ◌*◌, ◌<◌, ◌++◌, [], ◌∷◌, length, None, IfOk, IfErr, OnErr};
-ghost use Rattle.cckd_turn.specs.declared.view.Stage.TheVariants.{Waiting, Holding, Returning};
+ghost use Rattle.cckd_turn.specs.declared.view.PassState.TheVariants.{Waiting, Holding, Returning};
 ghost use Rattle.cckd_turn.specs.Views.{holding, returning, served};
 ghost use Rattle.cckd_turn.specs.Steps.{HasWaited};
 
@@ -28,13 +28,14 @@ impl<V: Stands> TurnTable<V> {
         ensures stands { V.stands result.value (seen_in result) }
         ensures room { HasRoom self.now (seen_in result) }
         ensures looks { looks_of pass.old < looks_in result }
+        ensures counted { looks_in result ≡ looks_of pass.old + result.looks }
         ensures tries { tries_in result ≡ tries_of pass.old }
     {
         let mut seat = pass.rise();
         pass.count_call();
         let ticket = self.table.shared.fetch_add::<Draw>(&mut seat, TICKET, 1);
-        self.wait(rt, &mut seat, ticket);
-        self.take(seat)
+        let looks = self.wait(rt, &mut seat, ticket);
+        self.take(seat, looks)
     }
 
     /// Draws a ticket only where it is served at once. It tries once, and waits for nobody.
@@ -47,6 +48,7 @@ impl<V: Stands> TurnTable<V> {
         ensures room { IfOk result (λ x. HasRoom self.now (seen_in x)) }
         ensures counts { IfOk result (λ x. (looks_in x ≡ looks_of pass.old + 1)
             × (tries_in x ≡ tries_of pass.old)) }
+        ensures counted { IfOk result (λ x. x.looks ≡ 1) }
 
         // Busy has the two numbers that this call read, of which the ticket was another than the one served.
         ensures busy { IfErr result (λ b. IsBusy pass.new b.serving b.ticket) }
@@ -64,7 +66,7 @@ impl<V: Stands> TurnTable<V> {
             return Err(Busy { serving, ticket });
         }
         pass.count_call();
-        Ok(self.take(seat))
+        Ok(self.take(seat, 1))
     }
 
     /// Gives the value back, as the one that the entry `N` leads to, and serves the next ticket.
@@ -76,14 +78,21 @@ impl<V: Stands> TurnTable<V> {
         ensures leaves { Leaves V.by N.entry pass.old taken pass.new }
         ensures place { result.place ≡ length (seen_by pass.new) }
     {
-        let Taken { value, mut seat } = taken;
+        let Taken {
+            value,
+            looks: _,
+            mut seat,
+        } = taken;
         let shared = &self.table.shared;
         let empty = shared.exchange(&mut seat, 0, Some(value));
         let None = empty else { unreachable!() };
         shared.load::<PutBack<N>>(&mut seat, SERVING);
         let before = shared.fetch_add::<PassOn>(&mut seat, SERVING, 1);
-        shared.wake_all(SERVING);
         let place = before + 1;
+        // Whoever draws the next ticket from here on sees that it is served, and doesn't sleep.
+        if shared.peek(TICKET) != place {
+            self.bells.ring(place);
+        }
         pass.sit(seat, place);
         Receipt { place }
     }
@@ -96,32 +105,38 @@ impl<V: Stands> TurnTable<V> {
         pass.front()
     }
 
-    fn wait<R: Wait>(&self, rt: &R, seat: &mut Seat<Option<V>, View<V::Entry>>, ticket: u64)
+    // Looks until the ticket is served, and says how often it looked.
+    fn wait<R: Wait>(&self, rt: &R, seat: &mut Seat<Option<V>, View<V::Entry>>, ticket: u64) -> u64
         requires table { seat.old.table_id ≡ table_id_of self.now }
         requires ticket { ticket ≡ seat.old.me.0.ticket }
         ensures table { seat.new.table_id ≡ seat.old.table_id }
         ensures waited { HasWaited V.by seat.old.me seat.new.me }
+        ensures looks { seat.new.me.0.looks ≡ seat.old.me.0.looks + result }
     {
         let shared = &self.table.shared;
-        for _ in rt.forever() {
+        for looks in 1..u64::MAX {
+            let rung = self.bells.rung(ticket);
             let serving = shared.load::<Look>(seat, SERVING);
             if serving == ticket {
-                return;
+                return looks;
             }
-            shared.park(rt, SERVING, (serving & 0xffff_ffff) as u32);
+            self.bells.sleep(rt, ticket, rung);
         }
+        // Nobody comes here: no run has time for so many looks.
+        for _ in rt.forever() {}
         unreachable!()
     }
 
     // Takes the value for a seat whose ticket is served.
-    fn take(&self, mut seat: Seat<Option<V>, View<V::Entry>>) -> Taken<V>
+    fn take(&self, mut seat: Seat<Option<V>, View<V::Entry>>, looks: u64) -> Taken<V>
         requires table { seat.table_id ≡ table_id_of self.now }
-        requires served { (seat.me.1 ≡ []) × (seat.me.0.stage ≡ Waiting)
+        requires served { (seat.me.1 ≡ []) × (seat.me.0.state ≡ Waiting)
             × (seat.me.0.ticket ≡ length seat.me.0.seen) }
         requires terms { (seat.me.0.callers ≡ callers_of self.now)
             × (seat.me.0.each ≡ calls_each_of self.now) }
         ensures seat { (result.seat.table_id ≡ seat.table_id)
             × (result.seat.me ≡ (holding seat.me.0, (0, None) ∷ [])) }
+        ensures looks { result.looks ≡ looks }
         ensures stands { V.stands result.value seat.me.0.seen }
         ensures room { HasRoom self.now seat.me.0.seen }
     {
@@ -130,6 +145,6 @@ impl<V: Stands> TurnTable<V> {
         let Some(value) = shared.exchange(&mut seat, 0, None) else {
             unreachable!()
         };
-        Taken { value, seat }
+        Taken { value, looks, seat }
     }
 }

@@ -2,7 +2,7 @@
 use std::collections::LinkedList;
 
 /// Where a pass is in a call.
-pub enum Stage {
+pub enum PassState {
     Idle,
     /// It has a ticket.
     Waiting,
@@ -21,7 +21,7 @@ pub struct Terms {
 
 /// What one pass knows.
 pub struct View<E> {
-    pub stage: Stage,
+    pub state: PassState,
     pub callers: u64,
     pub each: u64,
     /// How many calls the pass may still make.

@@ -12,7 +12,7 @@ split_seat-other-requires g c =
     let i = c.loop-number.invariant in (
       i.table,
       omega arith,
-      deals g.V.Stands.stands g.V.Stands.by c.args.self.now.table.shared.key _ c.loop-number.seat.me.0 (ap (λ m. m.0.stage) i.me) (enough_left c.args.terms _ _ _ (ap (λ m. m.0) i.me)),
+      deals g.V.Stands.stands g.V.Stands.by c.args.self.now.table.shared.key _ c.loop-number.seat.me.0 (ap (λ m. m.0.state) i.me) (enough_left c.args.terms _ _ _ (ap (λ m. m.0) i.me)),
     )
 
 pub loop-number-preserved : goal.loop-number-preserved

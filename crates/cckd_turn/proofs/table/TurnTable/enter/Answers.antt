@@ -11,7 +11,7 @@ fetch_add-ticket-requires g c =
       me.0 ∙ own.table,
       omega arith,
       draws g.V.Stands.stands g.V.Stands.by c.args.self.now.table.shared.key _ _ c.rise-seat.result.me
-          (ap (λ m. m.0.stage) me.1 ∙ own.idle)
+          (ap (λ m. m.0.state) me.1 ∙ own.idle)
           (let left = ap (λ m. m.0.left) me.1 ∙ own.left in omega arith)
           (omega arith),
     )

@@ -16,7 +16,7 @@ loop-pass-init g c =
     let seat = c.rise-seat.ensures.seat in
     record {
       table = seat.0 ∙ r.table;
-      idle = ap (λ m. m.0.stage) seat.1 ∙ r.idle;
+      idle = ap (λ m. m.0.state) seat.1 ∙ r.idle;
       resting = others_of_all (IsResting c.args.self.now) c.args.passes.items rest first items c.requires.resting;
       each = λ k p at. ⊎_elim
           (λ was. inl (k, was))
@@ -38,7 +38,7 @@ join_seat-requires g c =
       other.0 ∙ r.table,
       ap (λ m. m.1) other.1,
       omega arith,
-      joins g.V.Stands.stands g.V.Stands.by c.args.self.now.table.shared.key _ c.loop-pass.seat.me.0 _ c.rise.result.me.0 i.idle (ap (λ m. m.0.stage) other.1 ∙ r.idle),
+      joins g.V.Stands.stands g.V.Stands.by c.args.self.now.table.shared.key _ c.loop-pass.seat.me.0 _ c.rise.result.me.0 i.idle (ap (λ m. m.0.state) other.1 ∙ r.idle),
     )
 
 pub loop-pass-preserved : goal.loop-pass-preserved
@@ -53,7 +53,7 @@ loop-pass-preserved g c =
     let view = ap (λ m. m.0) j.2 in
     record {
       table = j.0 ∙ i.table;
-      idle = ap (λ m. m.0.stage) j.2 ∙ i.idle;
+      idle = ap (λ m. m.0.state) j.2 ∙ i.idle;
       resting = others_of_all (IsResting c.args.self.now) c.loop-pass.passes.items rest pass items i.resting;
       each = λ k p at. ⊎_elim
           (λ here. ⊎_elim

@@ -13,7 +13,7 @@ load-requires g c =
       puts_back_as g.V.Stands.stands g.V.Stands.by c.args.self.now.table.shared.key _ _ c.exchange-empty.new.seat.me c.args.taken.value (rest c.args.taken.seat.me.1) g.N.Adds.entry
           c.args.self.now.slots
           (ap (λ m. m.1) me)
-          (ap (λ m. m.0.stage) me ∙ own.holding)
+          (ap (λ m. m.0.state) me ∙ own.holding)
           (subst (λ v. g.V.Stands.stands c.args.taken.value (v.seen ++ g.N.Adds.entry ∷ [])) (sym (ap (λ m. m.0) me)) c.requires.stands),
     )
 
@@ -26,7 +26,7 @@ fetch_add-before-requires g c =
       c.load.ensures.0 ∙ (c.exchange-empty.ensures.0 ∙ own.table),
       omega arith,
       passes_on g.V.Stands.stands g.V.Stands.by c.args.self.now.table.shared.key _ _ _ c.load.new.seat.me _ g.N.Adds.entry
-          (ap (λ m. m.0.stage) back)
+          (ap (λ m. m.0.state) back)
           (ap (λ m. m.0.made) back)
           c.requires.named
           (ap (λ m. m.0.names) back ∙ (ap (λ m. m.0.names) me ∙ own.name)),

@@ -17,7 +17,7 @@ compare_exchange-ticket-requires g c =
       c.load-serving.ensures.0 ∙ (me.0 ∙ own.table),
       omega arith,
       tries g.V.Stands.stands g.V.Stands.by c.args.self.now.table.shared.key _ _ _ c.load-serving.new.seat.me
-          (ap (λ m. m.0.stage) told.1 ∙ (ap (λ m. m.0.stage) me.1 ∙ own.idle))
+          (ap (λ m. m.0.state) told.1 ∙ (ap (λ m. m.0.state) me.1 ∙ own.idle))
           (let left = ap (λ m. m.0.left) told.1 ∙ (ap (λ m. m.0.left) me.1 ∙ own.left) in omega arith)
           (omega arith),
     )
