@@ -5,7 +5,7 @@ use Rattle.std.proofs.Math.Seq.{take-append_seam}
 use Rattle.std.specs.Int.{Width, w16, w32, cast_signed, cast_unsigned}
 use Rattle.cckd_base.specs.declared.order.Order.{Order}
 use Rattle.cckd_base.specs.declared.order.Order.TheVariants.{Little, Big}
-use Rattle.cckd_base.specs.Numbers.{number_of, bytes_of, bytes_at, number_at}
+use Rattle.cckd_base.specs.Numbers.{number_of, bytes_of, bytes_at}
 use Rattle.cckd_image.specs.declared.header.DevHeader.{DevHeader}
 use Rattle.cckd_image.specs.declared.header.CckdHeader.{CckdHeader}
 use Rattle.cckd_image.specs.Image.{order_by, dev_header_of, cckd_header_of, dev_bytes, count_bytes, cckd_bytes, HasCounts}

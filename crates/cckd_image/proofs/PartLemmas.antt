@@ -25,10 +25,6 @@ pub behind_is_before : (part : List ℕ) (parts : List (List ℕ)) → behind pa
 behind_is_before part [] = refl
 behind_is_before part (next ∷ parts) = behind_longer part next parts ∙ ap (λ (x : List ℕ). part ++ x) (behind_is_before next parts)
 
--- bytes whose front of their own length is known
-pub whole : (n : ℕ) (bytes parts : List ℕ) → length bytes ≡ n → take n bytes ≡ parts → bytes ≡ parts
-whole n bytes parts long e = sym (take_all n bytes (omega arith)) ∙ e
-
 -- a part at a place, and what follows it
 pub joined : (bytes : List ℕ) (place n m : ℕ) {part rest : List ℕ} → part ≡ bytes_at bytes place n
     → rest ≡ bytes_at bytes (place + n) m → part ++ rest ≡ bytes_at bytes place (n + m)

@@ -1,4 +1,4 @@
-use Rattle.std.proofs.Common.{Some, None, refl, ap, ◌∙◌, sym}
+use Rattle.std.proofs.Common.{Some, None, ap, ◌∙◌, sym}
 use Rattle.cckd_image.specs.Image.{identifiers_of, header_of}
 use Rattle.cckd_image.proofs.FaultLemmas.{decoded_is, layout_of_bytes, accepted, layout_accepted, length_accepted, header_accepted, role_accepted}
 use Rattle.cckd_image.proofs.read.decode.Goals as goal

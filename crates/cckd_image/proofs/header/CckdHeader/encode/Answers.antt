@@ -1,9 +1,9 @@
-use Rattle.std.proofs.Common.{◌≡◌, ◌∙◌, ℕ, List, ap, [], ◌∷◌, ◌++◌, length, subst, sym, rules, arith}
+use Rattle.std.proofs.Common.{◌≡◌, ◌∙◌, ℕ, List, ap, [], ◌∷◌, ◌++◌, length, subst, rules}
 use Rattle.std.proofs.lemmas.Int.{to_z-of_z}
 use Rattle.std.specs.Int.{w16, w32, cast_signed, cast_unsigned}
 use Rattle.cckd_base.specs.declared.order.Order.{Order}
 use Rattle.cckd_base.specs.declared.order.Order.TheVariants.{Little}
-use Rattle.cckd_base.specs.Numbers.{bytes_of, number_of}
+use Rattle.cckd_base.specs.Numbers.{bytes_of}
 use Rattle.cckd_base.proofs.PutLemmas.{puts_join, put_as, put_fills}
 use Rattle.cckd_image.specs.Image.{order_by, cckd_bytes, count_bytes, cckd_header_of, HasCounts}
 use Rattle.cckd_image.proofs.BackLemmas.{IsBack, is_back, cckd_back}

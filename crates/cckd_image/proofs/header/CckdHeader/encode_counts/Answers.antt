@@ -1,4 +1,4 @@
-use Rattle.std.proofs.Common.{◌≡◌, ◌∙◌, ℕ, List, [], ◌∷◌, ◌++◌, length, subst, sym, rules, arith}
+use Rattle.std.proofs.Common.{◌≡◌, ◌∙◌, ℕ, List, [], ◌∷◌, subst, sym, rules}
 use Rattle.std.specs.Int.{w32}
 use Rattle.cckd_base.specs.Numbers.{bytes_of}
 use Rattle.cckd_base.proofs.PutLemmas.{puts_join, put_as, put_fills}

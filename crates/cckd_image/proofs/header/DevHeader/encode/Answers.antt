@@ -1,4 +1,4 @@
-use Rattle.std.proofs.Common.{◌≡◌, ◌∙◌, ℕ, List, [], ◌∷◌, ◌++◌, length, ap, sym, rules, arith}
+use Rattle.std.proofs.Common.{◌≡◌, ◌∙◌, ℕ, List, [], ◌∷◌, ◌++◌, ap, rules}
 use Rattle.std.specs.Int.{w16, w32}
 use Rattle.cckd_base.specs.declared.order.Order.TheVariants.{Little}
 use Rattle.cckd_base.specs.Numbers.{bytes_of}

@@ -1,4 +1,4 @@
-use Rattle.std.proofs.Common.{◌≡◌, ◌∙◌, ◌++◌, ℕ, List, ap, rules}
+use Rattle.std.proofs.Common.{◌≡◌, ◌∙◌, ◌++◌, ap, rules}
 use Rattle.cckd_base.proofs.PutLemmas.{puts_join, put_fills}
 use Rattle.cckd_image.specs.Image.{header_of}
 use Rattle.cckd_image.proofs.header.ImageHeader.encode.Goals as goal
