@@ -5,7 +5,39 @@ use Rattle.std.proofs.lemmas.Bool.Decides.{nat_tests}
 use Rattle.std.proofs.lemmas.Fmt.{decimal_is_IsNumeral}
 use Rattle.std.proofs.lemmas.Slice.Eq.{bytes_eq-Decides}
 use Rattle.std.specs.Str.{bytes_eq}
-use Rattle.cckd_script.specs.Grammar.{Kind, word, number, bytes, Value, nothing, amount, given, number_value, is_within, spelled_number, spelled_bytes, number_within, bytes_within, value_of, value_before, values_of, Spells, AreSpelled, KindFits, KindsFit}
+use Rattle.cckd_script.specs.Grammar.{Kind, word, number, bytes, Value, nothing, amount, given, number_value, is_within, spelled_number, spelled_bytes, number_within, bytes_within, value_of, value_before, values_of}
+
+-- a token of a kind spells a value
+abbrev pub Spells : Kind → Value → List ℕ → Type 0
+Spells (word text) nothing token = token ≡ text
+Spells (word text) (amount n) token = ⊥
+Spells (word text) (given bs) token = ⊥
+Spells (number least most) nothing token = ⊥
+Spells (number least most) (amount n) token = (token ≡ decimal n) × (least ≤ n) × (n ≤ most)
+Spells (number least most) (given bs) token = ⊥
+Spells (bytes least most) nothing token = ⊥
+Spells (bytes least most) (amount n) token = ⊥
+Spells (bytes least most) (given bs) token = (spelled_bytes token ≡ Some bs) × (least ≤ length bs) × (length bs ≤ most)
+
+-- tokens of these kinds spell these values
+abbrev pub AreSpelled : List Kind → List Value → List (List ℕ) → Type 0
+AreSpelled [] [] [] = Unit {0}
+AreSpelled [] [] (token ∷ rest) = ⊥
+AreSpelled [] (value ∷ values) parts = ⊥
+AreSpelled (kind ∷ kinds) [] parts = ⊥
+AreSpelled (kind ∷ kinds) (value ∷ values) [] = ⊥
+AreSpelled (kind ∷ kinds) (value ∷ values) (token ∷ rest) = Spells kind value token × AreSpelled kinds values rest
+
+-- the greatest number of each kind is one of 64 bits
+abbrev pub KindFits : Kind → Type 0
+KindFits (word text) = Unit {0}
+KindFits (number least most) = most < 2 ^ 64
+KindFits (bytes least most) = Unit {0}
+
+-- so it is for all kinds
+abbrev pub KindsFit : List Kind → Type 0
+KindsFit [] = Unit {0}
+KindsFit (kind ∷ kinds) = KindFits kind × KindsFit kinds
 
 both : (a b : Bool) → a ≡ true → b ≡ true → (a && b) ≡ true
 both a b e h = rw (e, h) refl

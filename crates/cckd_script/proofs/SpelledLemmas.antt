@@ -10,11 +10,11 @@ use Rattle.cckd_script.specs.declared.parse.LineFault.{LineFault}
 use Rattle.cckd_script.specs.declared.parse.What.{What}
 use Rattle.cckd_script.specs.declared.parse.What.TheVariants as what
 use Rattle.cckd_script.specs.Lines.{tokens}
-use Rattle.cckd_script.specs.Grammar.{Value, amount, values_of, AreSpelled, KindsFit}
+use Rattle.cckd_script.specs.Grammar.{Value, amount, values_of}
 use Rattle.cckd_script.specs.Parse.{Request, nothing as nothing_asked, one, Form, read_asked, read_form, forms, form_named, asked_by, asked_in, parsed_tokens, parsed, what_of, what_in, line_of, whole, line_in, asks, read_line}
 use Rattle.cckd_script.specs.Inside.{behind}
 use Rattle.cckd_script.proofs.TokenLemmas.{first_length, tokens_first, joined, joined_tokens, tokens_digits, tokens_digits_alone}
-use Rattle.cckd_script.proofs.GrammarLemmas.{spelled_to, spelled_from}
+use Rattle.cckd_script.proofs.GrammarLemmas.{AreSpelled, KindsFit, spelled_to, spelled_from}
 
 -- a form's word with tokens behind it that spell values asks by them
 pub form_from : (form : Form) (front : List ℕ) (values : List Value) (rest : List (List ℕ)) → form_named forms front ≡ Some form

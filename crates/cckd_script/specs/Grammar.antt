@@ -1,5 +1,5 @@
 -- The tokens of a line by their kinds: what they say, how it is spelled, and where the first wrong one begins.
-use Rattle.std.specs.Prelude.{◌≡◌, ◌≤◌, ◌<◌, ◌^◌, ℕ, ◌+◌, ◌-◌, nat_le, Bool, ◌&&◌, if◌then◌else◌, List, [], ◌∷◌, length, bytes_eq, codes, decimal, Option, Some, None, Result, Ok, Err}
+use Rattle.std.specs.Prelude.{ℕ, ◌+◌, ◌-◌, nat_le, Bool, ◌&&◌, if◌then◌else◌, List, [], ◌∷◌, length, bytes_eq, codes, decimal, Option, Some, None, Result, Ok, Err}
 use Rattle.std.specs.Str.Parse.{digits_value}
 use Rattle.std.specs.Result.{result_ok}
 use Rattle.hex.specs.Hex.{decode_of}
@@ -64,35 +64,3 @@ values_of column [] (token ∷ rest) = Err column
 values_of column (kind ∷ kinds) [] = Err (column - 1)
 values_of column (kind ∷ kinds) (token ∷ rest) =
     value_before column (value_of kind token) (values_of (column + length token + 1) kinds rest)
-
--- a token of a kind spells a value
-abbrev pub Spells : Kind → Value → List ℕ → Type 0
-Spells (word text) nothing token = token ≡ text
-Spells (word text) (amount n) token = ⊥
-Spells (word text) (given bs) token = ⊥
-Spells (number least most) nothing token = ⊥
-Spells (number least most) (amount n) token = (token ≡ decimal n) × (least ≤ n) × (n ≤ most)
-Spells (number least most) (given bs) token = ⊥
-Spells (bytes least most) nothing token = ⊥
-Spells (bytes least most) (amount n) token = ⊥
-Spells (bytes least most) (given bs) token = (spelled_bytes token ≡ Some bs) × (least ≤ length bs) × (length bs ≤ most)
-
--- tokens of these kinds spell these values
-abbrev pub AreSpelled : List Kind → List Value → List (List ℕ) → Type 0
-AreSpelled [] [] [] = Unit {0}
-AreSpelled [] [] (token ∷ rest) = ⊥
-AreSpelled [] (value ∷ values) parts = ⊥
-AreSpelled (kind ∷ kinds) [] parts = ⊥
-AreSpelled (kind ∷ kinds) (value ∷ values) [] = ⊥
-AreSpelled (kind ∷ kinds) (value ∷ values) (token ∷ rest) = Spells kind value token × AreSpelled kinds values rest
-
--- the greatest number of each kind is one of 64 bits
-abbrev pub KindFits : Kind → Type 0
-KindFits (word text) = Unit {0}
-KindFits (number least most) = most < 2 ^ 64
-KindFits (bytes least most) = Unit {0}
-
--- so it is for all kinds
-abbrev pub KindsFit : List Kind → Type 0
-KindsFit [] = Unit {0}
-KindsFit (kind ∷ kinds) = KindFits kind × KindsFit kinds
