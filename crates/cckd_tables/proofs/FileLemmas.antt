@@ -29,12 +29,10 @@ same_items f h a (suc n) e =
     cc
 
 pub words_of_file : (l : Layout) (n : ℕ) (file words : List ℕ) → n ≡ length file → words ≡ bytes_at file 1024 (4 * l.groups)
-    → items_of_words l n words 0 ≡ table_items l file
+    → items_of_words l n words l.groups ≡ table_items l file
 unfolding items_of_words table_items
 words_of_file l n file words e f =
-    let none : l.groups - 0 ≡ l.groups = omega arith in
-    ap (λ (k : ℕ). map (λ (g : ℕ). table_item l n g (number_at l.order w32 words (4 * g))) (range_with_len 0 k)) none
-    ∙ same_items (λ (g : ℕ). table_item l n g (number_at l.order w32 words (4 * g))) (λ (g : ℕ). table_item l (length file) g (word_at l file g)) 0 l.groups
+    same_items (λ (g : ℕ). table_item l n g (number_at l.order w32 words (4 * g))) (λ (g : ℕ). table_item l (length file) g (word_at l file g)) 0 l.groups
     (λ g h. ap (λ (k : ℕ). table_item l k g (number_at l.order w32 words (4 * g))) e
     ∙ ap (λ (bytes : List ℕ). table_item l (length file) g (number_of l.order w32 bytes))
     (ap (λ (ws : List ℕ). bytes_at ws (4 * g) 4) f ∙ part_of_part file 1024 (4 * l.groups) (4 * g) 4 (omega arith)))

@@ -1,8 +1,9 @@
 -- What the spaces of items are like.
-use Rattle.std.proofs.Common.{◌≡◌, ℕ, zero, suc, ◌+◌, ◌-◌, ◌*◌, ◌%◌, ◌<◌, ◌≤◌, ◌==◌, nat_lt, Bool, true, false, cond, ◌||◌, List, ◌∷◌, map, Some, None, Ok, Err, refl, sym, subst, arith}
+use Rattle.std.proofs.Common.{◌≡◌, ℕ, zero, suc, ◌+◌, ◌*◌, ◌<◌, ◌≤◌, ◌==◌, nat_lt, Bool, true, false, cond, ◌||◌, List, [], ◌∷◌, ◌++◌, map, Some, None, Ok, Err, refl, sym, subst, arith}
 use Rattle.std.specs.List.{range_with_len, AllByRecursion}
+use Rattle.std.specs.Option.{is_none}
 use Rattle.std.specs.Int.{w32}
-use Rattle.std.proofs.lemmas.Bool.{or_parts, ltb-false, eqb-false}
+use Rattle.std.proofs.lemmas.Bool.{cond_both, or_parts, ltb-false, eqb-false}
 use Rattle.cckd_base.specs.declared.geometry.Layout.{Layout}
 use Rattle.cckd_base.specs.declared.entry.L2Entry.{L2Entry}
 use Rattle.cckd_base.specs.declared.space.Extent.{Extent}
@@ -10,11 +11,11 @@ use Rattle.cckd_base.specs.declared.space.Owner.TheVariants.{Table, Track}
 use Rattle.cckd_base.specs.declared.misfit.Misfit.{Misfit}
 use Rattle.cckd_base.specs.declared.misfit.Misfit.TheVariants.{BadTable, BadEntry, ParentInBase}
 use Rattle.cckd_base.specs.Geometry.{is_null_format, area_of}
-use Rattle.cckd_base.specs.Numbers.{number_at, bytes_at}
-use Rattle.cckd_base.specs.Entry.{see_parent, entry_of}
+use Rattle.cckd_base.specs.Numbers.{number_at}
+use Rattle.cckd_base.specs.Entry.{see_parent}
 use Rattle.cckd_base.specs.Misfit.{is_misplaced, is_missized}
-use Rattle.cckd_base.specs.Survey.{Item, item_of, table_item, entry_item, table_space, track_space, header_space}
-use Rattle.cckd_tables.specs.Inside.{spaces_in, items_of_words, items_of_table, IsFormed, AreFormed, IsTableSpace, AreTableSpaces, HasTables}
+use Rattle.cckd_base.specs.Survey.{Item, item_of, table_item, entry_item, table_space, track_space, header_space, met, kept_with, kept_after}
+use Rattle.cckd_tables.specs.Inside.{items_of_words, IsFormed, HasFormed, IsTableSpace, AreTableSpaces}
 
 -- the tests that an item with a space passes
 chosen : (a k b s c : Bool) (m n o : Misfit) (space x : Extent)
@@ -64,45 +65,53 @@ entry_formed l n t e x h =
     let least : 1 ≤ e.len = omega arith in
     subst (IsFormed n) (sym c.1) (record { some = least; holds = omega arith; within = omega arith })
 
--- the spaces of a row of items
-all_spaces : (P : Extent → Type 0) (f : ℕ → Item) (a n : ℕ)
-    → ((k : ℕ) → a ≤ k → k < a + n → (x : Extent) → f k ≡ Ok (Some x) → P x)
-    → AllByRecursion P (spaces_in (map f (range_with_len a n)))
-all_spaces P f a zero h = tt
-all_spaces P f a (suc n) h =
-    by (f a) refl (all_spaces P f (a + 1) n (λ k low high x e. h k (omega arith) (omega arith) x e))
-  where
-    by : (i : Item) → f a ≡ i → AllByRecursion P (spaces_in (map f (range_with_len (a + 1) n)))
-        → AllByRecursion P (spaces_in (i ∷ map f (range_with_len (a + 1) n)))
-    by (Err m) e rest = tt
-    by (Ok None) e rest = rest
-    by (Ok (Some x)) e rest = (h a (omega arith) (omega arith) x e, rest)
-
 pub header_formed : (groups n : ℕ) → area_of groups ≤ n → IsFormed n (header_space groups)
 header_formed groups n h = record { some = omega arith; holds = omega arith; within = omega arith }
 
-pub words_formed : (l : Layout) (n : ℕ) (words : List ℕ) (from : ℕ) → AreFormed n (spaces_in (items_of_words l n words from))
+-- an item is of a formed space, if of one
+pub table_item_formed : (l : Layout) (n group word : ℕ) (item : Item) → item ≡ table_item l n group word → HasFormed n item
+table_item_formed l n group word (Err m) e = tt
+table_item_formed l n group word (Ok None) e = tt
+table_item_formed l n group word (Ok (Some x)) e = table_formed l n group word x (sym e)
+
+pub entry_item_formed : (l : Layout) (n t : ℕ) (entry : L2Entry) (item : Item) → item ≡ entry_item l n t entry → HasFormed n item
+entry_item_formed l n t entry (Err m) e = tt
+entry_item_formed l n t entry (Ok None) e = tt
+entry_item_formed l n t entry (Ok (Some x)) e = entry_formed l n t entry x (sym e)
+
+-- what holds of the spaces of all items holds of those that are kept
+abbrev OfSpace : (Extent → Type 0) → Item → Type 0
+OfSpace P (Err m) = Unit {0}
+OfSpace P (Ok None) = Unit {0}
+OfSpace P (Ok (Some x)) = P x
+
+kept_one : (P : Extent → Type 0) (kept : List Extent) (i : Item) → AllByRecursion P kept → OfSpace P i → AllByRecursion P (kept_with kept i)
+kept_one P kept (Err m) h p = h
+kept_one P kept (Ok None) h p = h
+kept_one P kept (Ok (Some x)) h p =
+    cond_both (is_none (met kept x)) (kept ++ x ∷ []) kept (AllByRecursion P) (λ e. pushed kept h) (λ e. h)
+  where
+    pushed : (ks : List Extent) → AllByRecursion P ks → AllByRecursion P (ks ++ x ∷ [])
+    pushed [] q = (p, tt)
+    pushed (k ∷ ks) q = (q.0, pushed ks q.1)
+
+kept_row : (P : Extent → Type 0) (f : ℕ → Item) (a n : ℕ) (kept : List Extent) → AllByRecursion P kept
+    → ((k : ℕ) → a ≤ k → k < a + n → OfSpace P (f k)) → AllByRecursion P (kept_after kept (map f (range_with_len a n)))
+kept_row P f a zero kept h p = h
+kept_row P f a (suc n) kept h p =
+    kept_row P f (a + 1) n (kept_with kept (f a)) (kept_one P kept (f a) h (p a (omega arith) (omega arith))) (λ k low high. p k (omega arith) (omega arith))
+
+table_item_named : (l : Layout) (n group word : ℕ) → group < l.groups → OfSpace (λ (e : Extent). IsTableSpace l.groups e.size e.owner) (table_item l n group word)
+table_item_named l n group word g = by (table_item l n group word) refl
+  where
+    by : (i : Item) → table_item l n group word ≡ i → OfSpace (λ (e : Extent). IsTableSpace l.groups e.size e.owner) i
+    by (Err m) e = tt
+    by (Ok None) e = tt
+    by (Ok (Some x)) e = table_named l n group word x g e
+
+-- each table that was kept is that of a group
+pub tables_named : (l : Layout) (n : ℕ) (words : List ℕ) → AreTableSpaces l.groups (kept_after (header_space l.groups ∷ []) (items_of_words l n words l.groups))
 unfolding items_of_words
-words_formed l n words from =
-    all_spaces (IsFormed n) _ from (l.groups - from) (λ k low high x e. table_formed l n k (number_at l.order w32 words (4 * k)) x e)
-
-pub words_named : (l : Layout) (n : ℕ) (words : List ℕ) → AreTableSpaces l.groups (spaces_in (items_of_words l n words 0))
-unfolding items_of_words
-words_named l n words =
-    all_spaces (λ (e : Extent). IsTableSpace l.groups e.size e.owner) _ 0 (l.groups - 0)
-    (λ k low high x e. table_named l n k (number_at l.order w32 words (4 * k)) x (omega arith) e)
-
-pub tracks_formed : (l : Layout) (n : ℕ) (bytes : List ℕ) (from to : ℕ) → AreFormed n (spaces_in (items_of_table l n bytes from to))
-unfolding items_of_table
-tracks_formed l n bytes from to =
-    all_spaces (IsFormed n) _ from (to - from) (λ k low high x e. entry_formed l n k (entry_of l.order (bytes_at bytes (8 * (k % 256)) 8)) x e)
-
--- the header area and the tables that the words name
-pub has_tables : (l : Layout) (n : ℕ) (words : List ℕ) (spaces : List Extent) → area_of l.groups ≤ n
-    → spaces ≡ header_space l.groups ∷ spaces_in (items_of_words l n words 0) → HasTables l.groups n spaces
-has_tables l n words spaces a e = record {
-  rest = spaces_in (items_of_words l n words 0);
-  headed = e;
-  formed = subst (AreFormed n) (sym e) (header_formed l.groups n a, words_formed l n words 0);
-  tables = subst (AreTableSpaces l.groups) (sym e) (tt, words_named l n words);
-}
+tables_named l n words =
+    kept_row (λ (e : Extent). IsTableSpace l.groups e.size e.owner) (λ (k : ℕ). table_item l n k (number_at l.order w32 words (4 * k))) 0 l.groups
+    (header_space l.groups ∷ []) (tt, tt) (λ k low high. table_item_named l n k (number_at l.order w32 words (4 * k)) (omega arith))

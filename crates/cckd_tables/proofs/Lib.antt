@@ -1,7 +1,9 @@
 pub mod MeetLemmas
 pub mod OrderLemmas
+pub mod KeptLemmas
+pub mod TakeLemmas
 pub mod ItemLemmas
-pub mod SurveyLemmas
 pub mod FormedLemmas
 pub mod FileLemmas
+pub mod SurveyLemmas
 pub mod ReadLemmas

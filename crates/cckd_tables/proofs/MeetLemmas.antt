@@ -1,11 +1,10 @@
 -- Spaces that share a byte.
-use Rattle.std.proofs.Common.{◌≡◌, ℕ, ◌+◌, ◌<◌, ◌≤◌, max, nat_lt, Bool, true, false, cond, List, [], ◌∷◌, ◌++◌, length, take, drop, get_or, Option, Some, None, refl, sym, ◌∙◌, ap, subst, arith, inl, inr}
-use Rattle.std.proofs.lemmas.Bool.{ltb-true, lt-ltb, le-ltb, le-leb, lt-leb, and_parts, and_from, and_left, and_right, cond-true, cond-false, cases_lt, cases_Bool}
-use Rattle.std.proofs.lemmas.List.{take_more, drop_more, take-append-drop}
+use Rattle.std.proofs.Common.{◌≡◌, ℕ, ◌+◌, ◌<◌, ◌≤◌, nat_le, nat_lt, Bool, true, false, cond, List, [], ◌∷◌, ◌++◌, Option, Some, None, refl, sym, ◌∙◌, ap, arith, ◌⊎◌, inl, inr}
+use Rattle.std.specs.List.{AllByRecursion}
+use Rattle.std.proofs.lemmas.Bool.{leb-false, cond_both, ltb-true, lt-ltb, le-ltb, le-leb, lt-leb, and_parts, and_from, and_left, and_right, cond-true, cond-false, cases_lt, cases_Bool}
 use Rattle.cckd_base.specs.declared.space.Extent.{Extent}
-use Rattle.cckd_base.specs.declared.misfit.Misfit.TheVariants.{Overlap}
-use Rattle.cckd_base.specs.Survey.{share_a_byte, lower, met}
-use Rattle.cckd_tables.specs.Inside.{holding, holders, AreApart, AreShared, IsFormed, AreFormed, IsFirstOverlap}
+use Rattle.cckd_base.specs.Survey.{share_a_byte, lower, met, placed_among, by_position}
+use Rattle.cckd_tables.specs.Kept.{holding, holders, AreApart}
 
 pub hold_in : (at : ℕ) (e : Extent) → e.pos ≤ at → at < e.pos + e.size → holding at e ≡ 1
 hold_in at e low high = cond-true _ 1 0 (and_from _ _ (le-leb e.pos at low) (lt-ltb at (e.pos + e.size) high))
@@ -27,12 +26,12 @@ holders_append : (at : ℕ) (xs ys : List Extent) → holders at (xs ++ ys) ≡ 
 holders_append at [] ys = omega arith
 holders_append at (x ∷ xs) ys = omega (arith, holders_append at xs ys)
 
-share_ends : (a b : Extent) → share_a_byte a b ≡ true → (a.pos < b.pos + b.size) × (b.pos < a.pos + a.size)
+pub share_ends : (a b : Extent) → share_a_byte a b ≡ true → (a.pos < b.pos + b.size) × (b.pos < a.pos + a.size)
 share_ends a b h =
     let p = and_parts _ _ h in
     (ltb-true _ _ p.0, ltb-true _ _ p.1)
 
-share_not : (a b : Extent) → share_a_byte a b ≡ false → a.pos < b.pos + b.size → b.pos < a.pos + a.size → ⊥
+pub share_not : (a b : Extent) → share_a_byte a b ≡ false → a.pos < b.pos + b.size → b.pos < a.pos + a.size → ⊥
 share_not a b h low high =
     let e : share_a_byte a b ≡ true = and_from _ _ (lt-ltb _ _ low) (lt-ltb _ _ high) in
     cc
@@ -45,7 +44,7 @@ some_stays a (Some b) e = chosen (nat_lt b.pos a.pos) e
     chosen true f = absurd cc
     chosen false f = absurd cc
 
-met_cons : (x : Extent) (xs : List Extent) (e : Extent) → met (x ∷ xs) e ≡ None → (share_a_byte x e ≡ false) × (met xs e ≡ None)
+pub met_cons : (x : Extent) (xs : List Extent) (e : Extent) → met (x ∷ xs) e ≡ None → (share_a_byte x e ≡ false) × (met xs e ≡ None)
 met_cons x xs e h = elim (cases_Bool (share_a_byte x e)) [
   | inl t ↦ absurd (some_stays x (met xs e) (ap (λ (m : Option Extent). lower m (met xs e)) (sym (cond-true _ (Some x) None t)) ∙ h))
   | inr f ↦ (f, ap (λ (m : Option Extent). lower m (met xs e)) (sym (cond-false _ (Some x) None f)) ∙ h)
@@ -66,7 +65,7 @@ unmet (x ∷ xs) e h at low high =
     ] in
     omega arith
 
-apart_more : (xs : List Extent) (e : Extent) → AreApart xs → met xs e ≡ None → AreApart (xs ++ e ∷ [])
+pub apart_more : (xs : List Extent) (e : Extent) → AreApart xs → met xs e ≡ None → AreApart (xs ++ e ∷ [])
 apart_more xs e apart h = record {
   each = λ at. let sum = holders_append at xs (e ∷ []) in
       let before = apart.each at in
@@ -79,59 +78,93 @@ apart_more xs e apart h = record {
       ];
 }
 
-shared_more : (x : Extent) (xs : List Extent) → AreShared xs → AreShared (x ∷ xs)
-shared_more x xs s = record { at = s.at; two = let t = s.two in omega arith }
+-- of two that are met, the lower
+first_stays : (a b : Extent) → a.pos ≤ b.pos → lower (Some a) (Some b) ≡ Some a
+first_stays a b h = cond-false (nat_lt b.pos a.pos) (Some b) (Some a) (le-ltb b.pos a.pos h)
 
-shared_by : (n : ℕ) (x : Extent) (xs : List Extent) (e : Extent) → IsFormed n x → IsFormed n e → share_a_byte x e ≡ true
-    → AreShared (x ∷ (xs ++ e ∷ []))
-shared_by n x xs e fx fe t =
-    let ends = share_ends x e t in
-    let at = max x.pos e.pos in
-    let a = hold_in at x (omega arith) (let s = fx.some in let h = fx.holds in omega (arith, ends.0, ends.1)) in
-    let b = hold_in at e (omega arith) (let s = fe.some in let h = fe.holds in omega (arith, ends.0, ends.1)) in
-    let sum = holders_append at xs (e ∷ []) in
-    record { at = at; two = omega arith }
+second_taken : (a b : Extent) → b.pos < a.pos → lower (Some a) (Some b) ≡ Some b
+second_taken a b h = cond-true (nat_lt b.pos a.pos) (Some b) (Some a) (lt-ltb b.pos a.pos h)
 
--- a space that meets one of these shares a byte
-met_shares : (n : ℕ) (xs : List Extent) (e f : Extent) → AreFormed n xs → IsFormed n e → met xs e ≡ Some f → AreShared (xs ++ e ∷ [])
-met_shares n [] e f fx fe h = absurd cc
-met_shares n (x ∷ xs) e f fx fe h = elim (cases_Bool (share_a_byte x e)) [
-  | inl t ↦ shared_by n x xs e fx.0 fe t
-  | inr apart ↦ shared_more x (xs ++ e ∷ [])
-      (met_shares n xs e f fx.1 fe (ap (λ (m : Option Extent). lower m (met xs e)) (sym (cond-false _ (Some x) None apart)) ∙ h))
+pub lower_none : (m : Option Extent) → lower m None ≡ m
+lower_none None = refl
+lower_none (Some a) = refl
+
+lower_three : (a b c : Extent) → lower (lower (Some a) (Some b)) (Some c) ≡ lower (Some a) (lower (Some b) (Some c))
+lower_three a b c = elim (cases_lt b.pos a.pos) [
+  | inl ba ↦ elim (cases_lt c.pos b.pos) [
+    | inl cb ↦ ap (λ (m : Option Extent). lower m (Some c)) (second_taken a b ba) ∙ second_taken b c cb
+        ∙ sym (ap (lower (Some a)) (second_taken b c cb) ∙ second_taken a c (omega arith))
+    | inr bc ↦ ap (λ (m : Option Extent). lower m (Some c)) (second_taken a b ba) ∙ first_stays b c bc
+        ∙ sym (ap (lower (Some a)) (first_stays b c bc) ∙ second_taken a b ba)
+  ]
+  | inr ab ↦ elim (cases_lt c.pos b.pos) [
+    | inl cb ↦ ap (λ (m : Option Extent). lower m (Some c)) (first_stays a b ab) ∙ sym (ap (lower (Some a)) (second_taken b c cb))
+    | inr bc ↦ ap (λ (m : Option Extent). lower m (Some c)) (first_stays a b ab) ∙ first_stays a c (omega arith)
+        ∙ sym (ap (lower (Some a)) (first_stays b c bc) ∙ first_stays a b ab)
+  ]
 ]
 
-not_both : (xs : List Extent) → AreApart xs → AreShared xs → ⊥
-not_both xs a s = absurd (let x = a.each s.at in let y = s.two in omega arith)
+lower_assoc : (a b c : Option Extent) → lower (lower a b) c ≡ lower a (lower b c)
+lower_assoc None b c = refl
+lower_assoc (Some a) None c = refl
+lower_assoc (Some a) (Some b) None = lower_none (lower (Some a) (Some b))
+lower_assoc (Some a) (Some b) (Some c) = lower_three a b c
 
-pub apart_front : (xs ys : List Extent) → AreApart (xs ++ ys) → AreApart xs
-apart_front xs ys a = record { each = λ at. let x = a.each at in let sum = holders_append at xs ys in omega arith }
+-- a space, where it is met
+abbrev pub hit : Extent → Extent → Option Extent
+hit k e = cond (share_a_byte k e) (Some k) None
 
--- spaces that are apart have met none
-pub apart_unmet : (n : ℕ) (xs : List Extent) (e : Extent) (ys : List Extent) → AreFormed n xs → IsFormed n e
-    → AreApart ((xs ++ e ∷ []) ++ ys) → met xs e ≡ None
-apart_unmet n xs e ys fx fe a = none (met xs e) refl
+pub met_append : (xs ys : List Extent) (e : Extent) → met (xs ++ ys) e ≡ lower (met xs e) (met ys e)
+met_append [] ys e = refl
+met_append (x ∷ xs) ys e =
+    ap (lower (hit x e)) (met_append xs ys e) ∙ sym (lower_assoc (hit x e) (met xs e) (met ys e))
+
+lower_swap : (s t : Bool) (x y : Extent) → y.pos < x.pos
+    → lower (cond t (Some y) None) (cond s (Some x) None) ≡ lower (cond s (Some x) None) (cond t (Some y) None)
+lower_swap true true x y h = first_stays y x (omega arith) ∙ sym (second_taken x y h)
+lower_swap true false x y h = refl
+lower_swap false true x y h = refl
+lower_swap false false x y h = refl
+
+met_placed : (x : Extent) (ys : List Extent) (e : Extent) → met (placed_among x ys) e ≡ met (x ∷ ys) e
+met_placed x [] e = refl
+met_placed x (y ∷ ys) e =
+    cond_both (nat_le x.pos y.pos) (x ∷ y ∷ ys) (y ∷ placed_among x ys) (λ (zs : List Extent). met zs e ≡ met (x ∷ y ∷ ys) e)
+    (λ t. refl)
+    (λ f. ap (lower (hit y e)) (met_placed x ys e)
+    ∙ sym (lower_assoc (hit y e) (hit x e) (met ys e))
+    ∙ ap (λ (m : Option Extent). lower m (met ys e)) (lower_swap (share_a_byte x e) (share_a_byte y e) x y (leb-false x.pos y.pos f))
+    ∙ lower_assoc (hit x e) (hit y e) (met ys e))
+
+-- the order makes no difference to what is met
+pub met_by_position : (xs : List Extent) (e : Extent) → met (by_position xs) e ≡ met xs e
+met_by_position [] e = refl
+met_by_position (x ∷ xs) e = met_placed x (by_position xs) e ∙ ap (lower (hit x e)) (met_by_position xs e)
+
+-- spaces that end before this one, or begin behind it
+pub share_none : (k e : Extent) → (k.pos + k.size ≤ e.pos) ⊎ (e.pos + e.size ≤ k.pos) → share_a_byte k e ≡ false
+share_none k e (inl h) = and_right (nat_lt k.pos (e.pos + e.size)) (nat_lt e.pos (k.pos + k.size)) (le-ltb e.pos (k.pos + k.size) h)
+share_none k e (inr h) = and_left (nat_lt k.pos (e.pos + e.size)) (nat_lt e.pos (k.pos + k.size)) (le-ltb k.pos (e.pos + e.size) h)
+
+met_off : (k : Extent) (ks : List Extent) (e : Extent) → share_a_byte k e ≡ false → met (k ∷ ks) e ≡ met ks e
+met_off k ks e h = ap (λ (m : Option Extent). lower m (met ks e)) (cond-false (share_a_byte k e) (Some k) None h)
+
+pub none_before : (ks : List Extent) (e : Extent) → AllByRecursion (λ (k : Extent). k.pos + k.size ≤ e.pos) ks → met ks e ≡ None
+none_before [] e h = refl
+none_before (k ∷ ks) e h = met_off k ks e (share_none k e (inl h.0)) ∙ none_before ks e h.1
+
+pub none_behind : (ks : List Extent) (e : Extent) → AllByRecursion (λ (k : Extent). e.pos + e.size ≤ k.pos) ks → met ks e ≡ None
+none_behind [] e h = refl
+none_behind (k ∷ ks) e h = met_off k ks e (share_none k e (inr h.0)) ∙ none_behind ks e h.1
+
+-- the lowest that is met is met first
+pub lowest_stays : (y : Extent) (ks : List Extent) (e : Extent) → AllByRecursion (λ (k : Extent). y.pos ≤ k.pos) ks → lower (Some y) (met ks e) ≡ Some y
+lowest_stays y [] e h = refl
+lowest_stays y (k ∷ ks) e h =
+    sym (lower_assoc (Some y) (hit k e) (met ks e))
+    ∙ ap (λ (m : Option Extent). lower m (met ks e)) (by (share_a_byte k e))
+    ∙ lowest_stays y ks e h.1
   where
-    none : (m : Option Extent) → met xs e ≡ m → m ≡ None
-    none None h = refl
-    none (Some f) h = absurd (not_both (xs ++ e ∷ []) (apart_front _ ys a) (met_shares n xs e f fx fe h))
-
--- the first space that meets one before it
-pub first_meets : (xs : List Extent) (i : ℕ) (d : Extent) → i < length xs → AreApart (take i xs) → AreShared (take (i + 1) xs)
-    → met (take i xs) (get_or xs i d) ≡ None → ⊥
-first_meets xs i d l a s h =
-    not_both (take i xs ++ get_or xs i d ∷ []) (apart_more (take i xs) (get_or xs i d) a h)
-    (subst AreShared (take_more xs i d l) s)
-
-pub first_overlap_is : (xs : List Extent) (i : ℕ) (d first : Extent) → i < length xs → AreApart (take i xs)
-    → met (take i xs) (get_or xs i d) ≡ Some first → IsFirstOverlap xs (Overlap first (get_or xs i d))
-first_overlap_is xs i d first l a h = record {
-  front = take i xs;
-  second = get_or xs i d;
-  back = drop (i + 1) xs;
-  parts = sym (take-append-drop i xs) ∙ ap (λ (ys : List Extent). take i xs ++ ys) (drop_more xs i d l);
-  apart = a;
-  first = first;
-  lowest = h;
-  named = refl;
-}
+    by : (t : Bool) → lower (Some y) (cond t (Some k) None) ≡ Some y
+    by true = first_stays y k h.0
+    by false = refl

@@ -1,5 +1,5 @@
 -- Spaces in order of position.
-use Rattle.std.proofs.Common.{◌≡◌, ℕ, suc, ◌+◌, ◌<◌, ◌≤◌, nat_le, Bool, true, false, List, [], ◌∷◌, ◌++◌, refl, sym, ◌∙◌, ap, subst, arith, inl, inr, ◌⊎◌}
+use Rattle.std.proofs.Common.{◌≡◌, ℕ, suc, ◌+◌, ◌<◌, ◌≤◌, nat_le, Bool, true, false, List, [], ◌∷◌, refl, sym, ◌∙◌, ap, arith, inl, inr, ◌⊎◌}
 use Rattle.std.specs.List.{AllByRecursion, sum_by}
 use Rattle.std.specs.List.Sorted.{IsPermutation, IsNonDecreasingBy}
 use Rattle.std.proofs.lemmas.Bool.{leb-true, leb-false, and_parts, and_cases, cond_both, cases_lt}
@@ -9,7 +9,8 @@ use Rattle.std.proofs.lemmas.List.Sorted.{IsPermutation-refl, IsPermutation-sym,
 use Rattle.cckd_base.specs.declared.space.Extent.{Extent}
 use Rattle.cckd_base.specs.declared.space.Owner.TheVariants.{Nobody}
 use Rattle.cckd_base.specs.Survey.{placed_among, by_position, StandApart}
-use Rattle.cckd_tables.specs.Inside.{holding, holders, AreApart, AreShared, IsFormed, AreFormed, stand_apart}
+use Rattle.cckd_tables.specs.Inside.{IsFormed, AreFormed}
+use Rattle.cckd_tables.specs.Kept.{holding, holders, AreApart, HaveBytes, stand_apart}
 use Rattle.cckd_tables.proofs.MeetLemmas.{hold_in, hold_before, hold_past, hold_once}
 
 -- each begins at or behind the one before
@@ -29,17 +30,17 @@ ascend_from (x ∷ y ∷ ys) h = (
   ascend_from (y ∷ ys) (λ i j d a b. h (suc i) (suc j) d (omega arith) (omega arith)),
 )
 
-all_between : (P Q : Extent → Type 0) → ((e : Extent) → P e → Q e) → (xs : List Extent) → AllByRecursion P xs → AllByRecursion Q xs
+pub all_between : (P Q : Extent → Type 0) → ((e : Extent) → P e → Q e) → (xs : List Extent) → AllByRecursion P xs → AllByRecursion Q xs
 all_between P Q f [] h = tt
 all_between P Q f (x ∷ xs) h = (f x h.0, all_between P Q f xs h.1)
 
 -- what it says that spaces stand apart
-stand_parts : (at : ℕ) (x : Extent) (xs : List Extent) → stand_apart at (x ∷ xs) ≡ true → (at ≤ x.pos) × (stand_apart (x.pos + x.size) xs ≡ true)
+pub stand_parts : (at : ℕ) (x : Extent) (xs : List Extent) → stand_apart at (x ∷ xs) ≡ true → (at ≤ x.pos) × (stand_apart (x.pos + x.size) xs ≡ true)
 stand_parts at x xs h =
     let p : (nat_le at x.pos ≡ true) × (stand_apart (x.pos + x.size) xs ≡ true) = and_parts _ _ h in
     (leb-true at x.pos p.0, p.1)
 
-stand_from : (at : ℕ) (xs : List Extent) → stand_apart at xs ≡ true → AllByRecursion (λ (e : Extent). at ≤ e.pos) xs
+pub stand_from : (at : ℕ) (xs : List Extent) → stand_apart at xs ≡ true → AllByRecursion (λ (e : Extent). at ≤ e.pos) xs
 stand_from at [] h = tt
 stand_from at (x ∷ xs) h =
     let p = stand_parts at x xs h in
@@ -64,28 +65,32 @@ apart_in_order at (x ∷ xs) h b =
       | inr past ↦ let z = hold_past b x past in let r = apart_in_order (x.pos + x.size) xs p.1 b in omega arith
     ]
 
+-- some byte is in two of them
+record AreShared (spaces : List Extent) : Type 0 where
+  at : ℕ
+  two : 2 ≤ holders at spaces
+
 two_more : (x : Extent) (xs : List Extent) → AreShared xs → AreShared (x ∷ xs)
 two_more x xs s = record { at = s.at; two = let t = s.two in omega arith }
 
-shared_behind : (n : ℕ) (x : Extent) (xs : List Extent) → AreFormed n (x ∷ xs) → Ascend (x ∷ xs)
+shared_behind : (x : Extent) (xs : List Extent) → HaveBytes (x ∷ xs) → Ascend (x ∷ xs)
     → stand_apart (x.pos + x.size) xs ≡ false → AreShared (x ∷ xs)
-shared_behind n x [] f a h = absurd cc
-shared_behind n x (y ∷ ys) f a h = elim (and_cases _ _ h) [
+shared_behind x [] f a h = absurd cc
+shared_behind x (y ∷ ys) f a h = elim (and_cases _ _ h) [
   | inl near ↦ let l : y.pos < x.pos + x.size = leb-false _ _ near in
-      let s = f.1.0.some in
-      let k = f.1.0.holds in
+      let s = f.1.0 in
       let g = hold_in y.pos x a.0 l in
       let e = hold_in y.pos y (omega arith) (omega arith) in
       record { at = y.pos; two = omega arith }
-  | inr later ↦ two_more x (y ∷ ys) (shared_behind n y ys f.1 a.1 later)
+  | inr later ↦ two_more x (y ∷ ys) (shared_behind y ys f.1 a.1 later)
 ]
 
 -- spaces in order of position that don't stand apart share a byte
-pub shared_in_order : (n : ℕ) (xs : List Extent) → AreFormed n xs → Ascend xs → stand_apart 0 xs ≡ false → AreShared xs
-shared_in_order n [] f a h = absurd cc
-shared_in_order n (x ∷ xs) f a h = elim (and_cases _ _ h) [
+shared_in_order : (xs : List Extent) → HaveBytes xs → Ascend xs → stand_apart 0 xs ≡ false → AreShared xs
+shared_in_order [] f a h = absurd cc
+shared_in_order (x ∷ xs) f a h = elim (and_cases _ _ h) [
   | inl below ↦ absurd (let l : x.pos < 0 = leb-false _ _ below in omega arith)
-  | inr behind ↦ shared_behind n x xs f a behind
+  | inr behind ↦ shared_behind x xs f a behind
 ]
 
 -- the same in the words of callers
@@ -109,11 +114,8 @@ formed_moved n xs ys p f =
 pub apart_moved : (xs ys : List Extent) → IsPermutation xs ys → AreApart ys → AreApart xs
 apart_moved xs ys p a = record { each = λ b. let h = a.each b in let e = holders_moved xs ys p b in omega arith }
 
-pub shared_moved : (xs ys : List Extent) → IsPermutation xs ys → AreShared ys → AreShared xs
-shared_moved xs ys p s = record { at = s.at; two = let h = s.two in let e = holders_moved xs ys p s.at in omega arith }
-
 -- putting a space at its place only moves it
-placed_moves : (x : Extent) (ys : List Extent) → IsPermutation (x ∷ ys) (placed_among x ys)
+pub placed_moves : (x : Extent) (ys : List Extent) → IsPermutation (x ∷ ys) (placed_among x ys)
 placed_moves x [] = IsPermutation-refl (x ∷ [])
 placed_moves x (y ∷ ys) =
     cond_both (nat_le x.pos y.pos) (x ∷ y ∷ ys) (y ∷ placed_among x ys) (λ (zs : List Extent). IsPermutation (x ∷ y ∷ ys) zs)
@@ -156,7 +158,7 @@ position_ascends (x ∷ xs) = placed_ascends x (by_position xs) (position_ascend
 abbrev Covers : List Extent → List Extent → Type 1
 Covers xs ys = (P : Extent → Type 0) → AllByRecursion P xs → AllByRecursion P ys
 
-covers_moved : (xs ys : List Extent) → IsPermutation xs ys → Covers xs ys
+pub covers_moved : (xs ys : List Extent) → IsPermutation xs ys → Covers xs ys
 covers_moved xs ys p P h = recursion_from_All P ys (All-permutation P xs ys p (All-from_recursion P xs h))
 
 -- the first of two lists
@@ -186,47 +188,61 @@ rest_covers x y xs ys e k c P h =
     only P f (l, inl g) = absurd (let s : f.pos ≡ y.pos = ap (λ (w : Extent). w.pos) (g ∙ sym e) in omega arith)
     only P f (l, inr p) = p
 
-behind : (n at : ℕ) (x : Extent) (xs : List Extent) → AreFormed n (x ∷ xs) → stand_apart at (x ∷ xs) ≡ true
+behind : (at : ℕ) (x : Extent) (xs : List Extent) → HaveBytes (x ∷ xs) → stand_apart at (x ∷ xs) ≡ true
     → AllByRecursion (λ (e : Extent). x.pos < e.pos) xs
-behind n at x xs f h =
+behind at x xs f h =
     let p = stand_parts at x xs h in
-    let s = f.0.some in
-    let k = f.0.holds in
+    let s = f.0 in
     all_between (λ (e : Extent). x.pos + x.size ≤ e.pos) (λ (e : Extent). x.pos < e.pos) (λ e l. omega arith) xs (stand_from (x.pos + x.size) xs p.1)
 
 -- two lists of the same spaces that stand apart in order are one
-one_order : (n at bt : ℕ) (xs ys : List Extent) → AreFormed n xs → AreFormed n ys → stand_apart at xs ≡ true → stand_apart bt ys ≡ true
+one_order : (at bt : ℕ) (xs ys : List Extent) → HaveBytes xs → HaveBytes ys → stand_apart at xs ≡ true → stand_apart bt ys ≡ true
     → Covers xs ys → Covers ys xs → ys ≡ xs
-one_order n at bt [] [] f g h k c d = refl
-one_order n at bt [] (y ∷ ys) f g h k c d = absurd ((c (λ _. ⊥) tt).0)
-one_order n at bt (x ∷ xs) [] f g h k c d = absurd ((d (λ _. ⊥) tt).0)
-one_order n at bt (x ∷ xs) (y ∷ ys) f g h k c d =
-    let hx = behind n at x xs f h in
-    let hy = behind n bt y ys g k in
+one_order at bt [] [] f g h k c d = refl
+one_order at bt [] (y ∷ ys) f g h k c d = absurd ((c (λ _. ⊥) tt).0)
+one_order at bt (x ∷ xs) [] f g h k c d = absurd ((d (λ _. ⊥) tt).0)
+one_order at bt (x ∷ xs) (y ∷ ys) f g h k c d =
+    let hx = behind at x xs f h in
+    let hy = behind bt y ys g k in
     let e = same_first x y xs ys hx hy c d in
-    let rest : ys ≡ xs = one_order n (x.pos + x.size) (y.pos + y.size) xs ys f.1 g.1 (stand_parts at x xs h).1 (stand_parts bt y ys k).1
+    let rest : ys ≡ xs = one_order (x.pos + x.size) (y.pos + y.size) xs ys f.1 g.1 (stand_parts at x xs h).1 (stand_parts bt y ys k).1
     (rest_covers x y xs ys e hy c) (rest_covers y x ys xs (sym e) hx d) in
     cc
 
--- spaces that stand apart are those in order of position
-pub stand_is_order : (n : ℕ) (xs ys : List Extent) → AreFormed n xs → IsPermutation xs ys → stand_apart 0 ys ≡ true → ys ≡ by_position xs
-stand_is_order n xs ys f p h =
-    let zs = by_position xs in
-    let q : IsPermutation xs zs = position_moves xs in
-    let yz : IsPermutation ys zs = IsPermutation-trans ys xs zs (IsPermutation-sym xs ys p) q in
-    let fz : AreFormed n zs = formed_moved n xs zs q f in
-    let apart : AreApart ys = record { each = apart_in_order 0 ys h } in
-    let apart_z : AreApart zs = apart_moved zs ys (IsPermutation-sym ys zs yz) apart in
-    one_order n 0 0 zs ys fz (formed_moved n xs ys p f) (stands n zs fz (position_ascends xs) apart_z (stand_apart 0 zs) refl) h
-    (covers_moved zs ys (IsPermutation-sym ys zs yz)) (covers_moved ys zs yz)
-  where
-    stands : (n : ℕ) (zs : List Extent) → AreFormed n zs → Ascend zs → AreApart zs → (b : Bool) → stand_apart 0 zs ≡ b → stand_apart 0 zs ≡ true
-    stands n zs fz a apart true e = e
-    stands n zs fz a apart false e =
-        absurd (let s = shared_in_order n zs fz a e in let x = apart.each s.at in let y = s.two in omega arith)
+bytes_moved : (xs ys : List Extent) → IsPermutation xs ys → HaveBytes xs → HaveBytes ys
+bytes_moved xs ys p h = covers_moved xs ys p (λ (e : Extent). 1 ≤ e.size) h
 
--- a copy of some spaces was moved
-pub copy_moved : (none copy spaces sorted : List Extent) → none ≡ [] → copy ≡ none ++ spaces → IsPermutation copy sorted → IsPermutation spaces sorted
-copy_moved none copy spaces sorted e f p =
-    let same : copy ≡ spaces = f ∙ ap (λ (l : List Extent). l ++ spaces) e in
-    subst (λ (l : List Extent). IsPermutation l sorted) same p
+-- spaces in order of position that are apart stand apart
+ascending_stand : (zs : List Extent) → HaveBytes zs → Ascend zs → AreApart zs → (b : Bool) → stand_apart 0 zs ≡ b → stand_apart 0 zs ≡ true
+ascending_stand zs f a apart true e = e
+ascending_stand zs f a apart false e =
+    absurd (let s = shared_in_order zs f a e in let x = apart.each s.at in let y = s.two in omega arith)
+
+pub position_stands : (xs : List Extent) → HaveBytes xs → AreApart xs → stand_apart 0 (by_position xs) ≡ true
+position_stands xs f a =
+    let p = position_moves xs in
+    ascending_stand (by_position xs) (bytes_moved xs (by_position xs) p f) (position_ascends xs)
+    (apart_moved (by_position xs) xs (IsPermutation-sym xs (by_position xs) p) a) _ refl
+
+-- spaces that stand apart are those in order of position
+pub stand_is_order : (xs ys : List Extent) → HaveBytes xs → IsPermutation xs ys → stand_apart 0 ys ≡ true → ys ≡ by_position xs
+stand_is_order xs ys f p h =
+    let q = position_moves xs in
+    let yz : IsPermutation ys (by_position xs) = IsPermutation-trans ys xs (by_position xs) (IsPermutation-sym xs ys p) q in
+    let apart : AreApart ys = record { each = apart_in_order 0 ys h } in
+    one_order 0 0 (by_position xs) ys (bytes_moved xs (by_position xs) q f) (bytes_moved xs ys p f)
+    (position_stands xs f (apart_moved xs ys p apart)) h
+    (covers_moved (by_position xs) ys (IsPermutation-sym ys (by_position xs) yz)) (covers_moved ys (by_position xs) yz)
+
+-- the order in which spaces came makes no difference
+pub same_order : (xs ys : List Extent) → HaveBytes xs → AreApart xs → IsPermutation xs ys → by_position ys ≡ by_position xs
+same_order xs ys f a p =
+    let q = IsPermutation-trans xs ys (by_position ys) p (position_moves ys) in
+    stand_is_order xs (by_position ys) f q
+    (position_stands ys (bytes_moved xs ys p f) (apart_moved ys xs (IsPermutation-sym xs ys p) a))
+
+-- what a sort leaves of spaces that are apart
+pub sorted_order : (xs ys : List Extent) → HaveBytes xs → AreApart xs → IsPermutation xs ys → IsNonDecreasingBy (λ (e : Extent). e.pos) ys → ys ≡ by_position xs
+sorted_order xs ys f a p s =
+    stand_is_order xs ys f p
+    (ascending_stand ys (bytes_moved xs ys p f) (ascend_from ys s) (apart_moved ys xs (IsPermutation-sym xs ys p) a) _ refl)

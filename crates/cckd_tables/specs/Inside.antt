@@ -1,39 +1,19 @@
 -- What the parts of a survey say to each other.
-use Rattle.std.specs.Prelude.{ℕ, ◌≡◌, ◌⊎◌, ◌+◌, ◌*◌, ◌-◌, ◌<◌, ◌≤◌, ◌%◌, min, nat_le, nat_lt, Bool, true, ◌&&◌, if◌then◌else◌, List, [], ◌∷◌, ◌++◌, map, Option, Some, None, Result, Ok, Err, Vec}
+use Rattle.std.specs.Prelude.{ℕ, ◌≡◌, ◌+◌, ◌*◌, ◌-◌, ◌<◌, ◌≤◌, ◌%◌, min, List, [], ◌∷◌, ◌++◌, map, Some, None, Ok, Err}
 use Rattle.std.specs.List.{range_with_len, AllByRecursion}
-use Rattle.std.specs.Option.{option_to_list}
 use Rattle.std.specs.Int.{w32}
 use Rattle.cckd_base.specs.declared.geometry.Layout.{Layout}
 use Rattle.cckd_base.specs.declared.space.Extent.{Extent}
 use Rattle.cckd_base.specs.declared.space.Owner.{Owner}
 use Rattle.cckd_base.specs.declared.space.Owner.TheVariants.{Nobody, Header, Table, Track}
-use Rattle.cckd_base.specs.declared.misfit.Misfit.{Misfit}
-use Rattle.cckd_base.specs.declared.misfit.Misfit.TheVariants.{Overlap}
-use Rattle.cckd_base.specs.declared.misfit.ScanFault.{ScanFault}
-use Rattle.cckd_base.specs.declared.misfit.ScanFault.TheVariants as fault
 use Rattle.cckd_base.specs.Numbers.{number_at, bytes_at}
 use Rattle.cckd_base.specs.Entry.{entry_of}
-use Rattle.cckd_base.specs.Survey.{Item, table_item, entry_item, header_space, met, misfits_after, by_position}
+use Rattle.cckd_base.specs.Survey.{Item, header_space, table_item, entry_item, kept_after, misfits_after, by_position, items, misfits}
+use Rattle.cckd_shelf.specs.Seen.{Seen, Tells}
+use Rattle.cckd_shelf.specs.World.{IsSure, file_of}
 use Rattle.cckd_base.specs.Geometry.{track_count}
-use Rattle.cckd_tables.specs.Scan.{first_misfit}
-
--- a space holds a byte, counted
-abbrev pub holding : ℕ → Extent → ℕ
-holding at e = if nat_le e.pos at && nat_lt at (e.pos + e.size) then 1 else 0
-
--- how many of the spaces hold a byte
-abbrev pub holders : ℕ → List Extent → ℕ
-holders at [] = 0
-holders at (e ∷ es) = holding at e + holders at es
-
--- no byte is in two of the spaces
-pub record AreApart (spaces : List Extent) : Type 0 where
-  pub each : (at : ℕ) → holders at spaces ≤ 1
-
--- some byte is in two of them
-pub record AreShared (spaces : List Extent) : Type 0 where
-  pub at : ℕ
-  pub two : 2 ≤ holders at spaces
+use Rattle.cckd_tables.specs.declared.progress.Progress.{Progress}
+use Rattle.cckd_tables.specs.Kept.{AreApart}
 
 -- it is in use from its first byte on, and ends inside the file
 pub record IsFormed (file_len : ℕ) (e : Extent) : Type 0 where
@@ -45,27 +25,16 @@ pub record IsFormed (file_len : ℕ) (e : Extent) : Type 0 where
 abbrev pub AreFormed : ℕ → List Extent → Type 0
 AreFormed file_len spaces = AllByRecursion (IsFormed file_len) spaces
 
--- each begins where the one before has ended, or later
-abbrev pub stand_apart : ℕ → List Extent → Bool
-stand_apart at [] = true
-stand_apart at (e ∷ es) = nat_le at e.pos && stand_apart (e.pos + e.size) es
+-- so is the space of an item, where it has one
+abbrev pub HasFormed : ℕ → Item → Type 0
+HasFormed file_len (Err misfit) = Unit {0}
+HasFormed file_len (Ok None) = Unit {0}
+HasFormed file_len (Ok (Some space)) = IsFormed file_len space
 
--- the spaces before the first item that is at fault by itself
-abbrev pub spaces_in : List Item → List Extent
-spaces_in [] = []
-spaces_in (Err misfit ∷ is) = []
-spaces_in (Ok space ∷ is) = option_to_list space ++ spaces_in is
-
--- the first item that is at fault by itself
-abbrev pub fault_in : List Item → Option Misfit
-fault_in [] = None
-fault_in (Err misfit ∷ is) = Some misfit
-fault_in (Ok space ∷ is) = fault_in is
-
--- the level-one words from a group on
+-- the level-one words of the first groups
 unfoldable pub items_of_words : Layout → ℕ → List ℕ → ℕ → List Item
-items_of_words l file_len words from =
-    map (λ group. table_item l file_len group (number_at l.order w32 words (4 * group))) (range_with_len from (l.groups - from))
+items_of_words l file_len words to =
+    map (λ group. table_item l file_len group (number_at l.order w32 words (4 * group))) (range_with_len 0 to)
 
 -- the entries in a table from one track up to another
 unfoldable pub items_of_table : Layout → ℕ → List ℕ → ℕ → ℕ → List Item
@@ -87,62 +56,33 @@ IsTableSpace groups size (Track t) = Unit {0}
 abbrev pub AreTableSpaces : ℕ → List Extent → Type 0
 AreTableSpaces groups spaces = AllByRecursion (λ e. IsTableSpace groups e.size e.owner) spaces
 
--- the first space that shares a byte with one before it
-pub record IsFirstOverlap (spaces : List Extent) (misfit : Misfit) : Type 0 where
-  pub front : List Extent
-  pub second : Extent
-  pub back : List Extent
-  pub parts : spaces ≡ front ++ second ∷ back
-  pub apart : AreApart front
-  pub first : Extent
-  pub lowest : met front second ≡ Some first
-  pub named : misfit ≡ Overlap first second
+-- the spaces that a survey keeps are formed and apart, and it finds them by position
+pub record IsUnderWay (file_len : ℕ) (s : Progress) : Type 0 where
+  pub formed : AreFormed file_len s.spaces.items
+  pub apart : AreApart s.spaces.items
+  pub found : s.kept ≡ by_position s.spaces.items
 
--- the fault behind the spaces where they are apart, and else the first overlap among them
-abbrev pub Blames : List Extent → Option Misfit → ScanFault → Type 0
-Blames spaces later (fault.Misfit m) = ((later ≡ Some m) × AreApart spaces) ⊎ IsFirstOverlap spaces m
-Blames spaces later fault.ReadFault = ⊥
-Blames spaces later fault.Memory = Unit {0}
+-- a survey has taken these items
+pub record Takes (file_len : ℕ) (items : List Item) (old new : Progress) : Type 0 where
+  pub kept : new.spaces.items ≡ kept_after old.spaces.items items
+  pub misfits : new.misfits.items ≡ old.misfits.items ++ misfits_after old.spaces.items items
+  pub under_way : IsUnderWay file_len new
 
--- the spaces in order of position where all is well, or the first that is wrong with them and what stands behind them
-abbrev pub Judges : {Z : Type 0} → List Extent → Option Misfit → Result (Vec Extent Z) ScanFault → Type 0
-Judges spaces later (Ok sorted) =
-    (later ≡ None) × AreApart spaces × (sorted.items ≡ by_position spaces) × (stand_apart 0 sorted.items ≡ true)
-Judges spaces later (Err found) = Blames spaces later found
+-- it has taken some items
+pub record TakesSome (file_len : ℕ) (old new : Progress) : Type 0 where
+  pub items : List Item
+  pub takes : Takes file_len items old new
 
--- a misfit is the first among these items behind the header area
-abbrev pub RefusesTables : ℕ → List Item → ScanFault → Type 0
-RefusesTables groups words (fault.Misfit m) = first_misfit (misfits_after (header_space groups ∷ []) words) ≡ Some m
-RefusesTables groups words fault.ReadFault = Unit {0}
-RefusesTables groups words fault.Memory = Unit {0}
+-- a survey has taken all of a file, beginning with the header area
+pub record HasTaken (l : Layout) (file : List ℕ) (s : Progress) : Type 0 where
+  pub kept : s.spaces.items ≡ kept_after (header_space l.groups ∷ []) (items l file)
+  pub misfits : s.misfits.items ≡ misfits l file
 
--- the header area and the tables where all is well with them, or the first misfit among these items
-abbrev pub SettlesTables : {Z : Type 0} → ℕ → List Item → Result (Vec Extent Z) ScanFault → Type 0
-SettlesTables groups words (Ok tables) =
-    (fault_in words ≡ None) × AreApart tables.items × (tables.items ≡ header_space groups ∷ spaces_in words)
-SettlesTables groups words (Err found) = RefusesTables groups words found
-
--- whether a fault is not one of reading
-abbrev pub IsInside : ScanFault → Type 0
-IsInside fault.ReadFault = ⊥
-IsInside fault.Memory = Unit {0}
-IsInside (fault.Misfit m) = Unit {0}
-
--- whether a fault is none of an image
-abbrev pub IsOutside : ScanFault → Type 0
-IsOutside fault.ReadFault = Unit {0}
-IsOutside fault.Memory = Unit {0}
-IsOutside (fault.Misfit m) = ⊥
-
--- the header area with tables behind it, each of which ends inside the file
-pub record HasTables (groups file_len : ℕ) (spaces : List Extent) : Type 0 where
+-- the header area comes first
+pub record IsHeaded (groups : ℕ) (spaces : List Extent) : Type 0 where
   pub rest : List Extent
   pub headed : spaces ≡ header_space groups ∷ rest
-  pub formed : AreFormed file_len spaces
-  pub tables : AreTableSpaces groups spaces
 
--- spaces are added that end inside the file
-pub record Adds (file_len : ℕ) (old new : List Extent) : Type 0 where
-  pub more : List Extent
-  pub added : new ≡ old ++ more
-  pub formed : AreFormed file_len more
+-- the whole file of a slot was taken, as far as it is told
+abbrev pub HasTakenAll : Layout → ℕ → Seen → Progress → Type 0
+HasTakenAll l slot s taken = Tells s → IsSure s.world → HasTaken l (file_of s.world slot) taken

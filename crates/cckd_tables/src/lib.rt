@@ -1,16 +1,13 @@
 //! The two-level tables of one image: the survey of all that they name.
 #![tactic(auto)]
 
-mod collecting;
-mod items;
-mod judging;
-mod overlap;
-mod reading;
-mod scanning;
-mod sorting;
-mod tables;
+mod item;
+mod kept;
+mod progress;
+mod read;
+mod surveyed;
 #[cfg(test)]
 mod tests;
 
 pub use cckd_base::{Extent, Layout, Misfit, Owner, ScanFault};
-pub use scanning::scan;
+pub use surveyed::{SurveyFault, Surveyed, scan, survey};

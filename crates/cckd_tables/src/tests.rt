@@ -1,9 +1,10 @@
 //! Surveys of small images: a 2311 has 2,000 tracks in eight groups, and its header area ends at 1,056.
 ghost use Rattle.cckd_base.specs.Geometry.{IsLayout};
 
-use crate::scan;
+use crate::{SurveyFault, Surveyed, scan, survey};
 use cckd_base::{Extent, Geometry, L2Entry, Layout, Misfit, Order, Owner, ScanFault};
-use cckd_shelf::{Bytes, FileIn, MemoryStage, Shelf, Slot};
+use cckd_memory::{Bytes, FileIn, MemoryStage};
+use cckd_shelf::{Shelf, Slot};
 use std::alloc::Global;
 use std::test::Fail;
 
@@ -53,19 +54,31 @@ fn entry(pos: u32, len: u16, size: u16) -> L2Entry {
     L2Entry { pos, len, size }
 }
 
+fn bad_table(group: u32, pos: u32) -> Misfit {
+    Misfit::BadTable { group, pos }
+}
+
+fn bad_entry(track: u32, entry: L2Entry) -> Misfit {
+    Misfit::BadEntry { track, entry }
+}
+
+fn overlap(first: Extent, second: Extent) -> Misfit {
+    Misfit::Overlap { first, second }
+}
+
+/// An image of `len` bytes: level-one words by their group, and entries by their place in the file.
+#[derive(Clone, Copy)]
+struct Image<'a> {
+    len: usize,
+    words: &'a [(u16, u32)],
+    entries: &'a [(usize, L2Entry)],
+}
+
 /// Puts bytes over those of a file, as far as it reaches.
 fn patch(file: &mut [u8], at: usize, bytes: &[u8]) {
     for (place, byte) in file.iter_mut().skip(at).zip(bytes) {
         *place = *byte;
     }
-}
-
-/// What stands in an image of `len` bytes: level-one words by their group, and entries by their place.
-#[derive(Clone, Copy, Debug)]
-struct Image<'a> {
-    len: usize,
-    words: &'a [(u16, u32)],
-    entries: &'a [(usize, L2Entry)],
 }
 
 fn bytes_of(alloc: Global, order: Order, image: &Image) -> Result<Vec<u8>, Fail> {
@@ -80,17 +93,14 @@ fn bytes_of(alloc: Global, order: Order, image: &Image) -> Result<Vec<u8>, Fail>
     Ok(file)
 }
 
-/// The survey of an image, where the calls of these numbers fail: the first two bind the slot and ask for
-/// the length.
-fn survey(
+/// A stage with the image in slot 0, where the calls of these numbers fail: the first binds the slot.
+fn stage_of(
     alloc: Global,
-    l: &Layout,
+    order: Order,
     image: &Image,
     failing: &[u64],
-) -> Result<Result<Vec<Extent>, ScanFault>, Fail>
-    requires { IsLayout l.now }
-{
-    let bytes = bytes_of(alloc, l.order, image)?;
+) -> Result<(MemoryStage, Slot), Fail> {
+    let bytes = bytes_of(alloc, order, image)?;
     let mut files = Vec::new(alloc);
     files.push(FileIn {
         name: Bytes::of(alloc, b"v")?,
@@ -99,8 +109,39 @@ fn survey(
     let mut stage = MemoryStage::new(alloc, &files, b"", failing)?;
     let slot = Slot::new(0).ok_or("no slot")?;
     stage.bind(slot, "v")?;
+    Ok((stage, slot))
+}
+
+/// The survey of an image, where the calls of these numbers fail: the first two bind the slot and ask for
+/// the length.
+fn survey_of(
+    alloc: Global,
+    l: &Layout,
+    image: &Image,
+    failing: &[u64],
+) -> Result<Result<Surveyed, SurveyFault>, Fail>
+    requires { IsLayout l.now }
+{
+    let (mut stage, slot) = stage_of(alloc, l.order, image, failing)?;
     let len = u32::try_from(stage.len(slot)?)?;
-    if u64::from(len) < 1024 + 4 * u64::from(l.groups) {
+    if u64::from(len) < l.area() {
+        return Err(Fail::new("no header area"));
+    }
+    Ok(survey(alloc, &mut stage, slot, l, len))
+}
+
+/// The same of a scan.
+fn scan_of(
+    alloc: Global,
+    l: &Layout,
+    image: &Image,
+    failing: &[u64],
+) -> Result<Result<Vec<Extent>, ScanFault>, Fail>
+    requires { IsLayout l.now }
+{
+    let (mut stage, slot) = stage_of(alloc, l.order, image, failing)?;
+    let len = u32::try_from(stage.len(slot)?)?;
+    if u64::from(len) < l.area() {
         return Err(Fail::new("no header area"));
     }
     Ok(scan(alloc, &mut stage, slot, l, len))
@@ -111,271 +152,157 @@ type Words<'a> = &'a [(u16, u32)];
 type Entries<'a> = &'a [(usize, L2Entry)];
 
 #[test]
-fn used_spaces_come_in_order_of_position(rt: HostRuntime) -> Result<(), Fail> {
+fn spaces_are_kept_and_misfits_told_in_order(rt: HostRuntime) -> Result<(), Fail> {
     let one = table(0, 1056);
-    let cases: [(usize, Words, Entries, &[Extent]); 10] = [
-        (1056, &[], &[], &[HEADER]),
-        (
-            3152,
-            &[(0, 1056)],
-            &[(1056, entry(3104, 45, 48))],
-            &[HEADER, one, track(0, 3104, 45, 48)],
-        ),
-        // A table may end with the file, and start anywhere.
-        (3104, &[(0, 1056)], &[], &[HEADER, one]),
-        (3105, &[(3, 1057)], &[], &[HEADER, table(3, 1057)]),
-        // Position counts, and neither group nor track.
+    let cases: [(usize, Words, Entries, &[Extent], &[Misfit]); 9] = [
+        (1056, &[], &[], &[HEADER], &[]),
+        // Position counts, and neither group nor track. Neighbours touch.
         (
             5300,
             &[(0, 3200), (1, 1056)],
-            &[(3200, entry(3104, 40, 96)), (1056, entry(5248, 8, 8))],
+            &[
+                (3200, entry(3152, 40, 48)),
+                (3208, entry(3104, 40, 48)),
+                (1056, entry(5248, 8, 8)),
+            ],
             &[
                 HEADER,
                 table(1, 1056),
-                track(0, 3104, 40, 96),
+                track(1, 3104, 40, 48),
+                track(0, 3152, 40, 48),
                 table(0, 3200),
                 track(256, 5248, 8, 8),
             ],
+            &[],
         ),
-        // Stored bytes may end with the file, and the file's end cuts their space.
-        (
-            3149,
-            &[(0, 1056)],
-            &[(1056, entry(3104, 45, 48))],
-            &[HEADER, one, track(0, 3104, 45, 45)],
-        ),
-        // Neighbours that touch.
-        (
-            3200,
-            &[(0, 1056)],
-            &[(1056, entry(3152, 48, 48)), (1064, entry(3104, 48, 48))],
-            &[HEADER, one, track(1, 3104, 48, 48), track(0, 3152, 48, 48)],
-        ),
-        // Null tracks of both formats.
+        // A table may end with the file. Null tracks of both formats have no space.
         (
             3104,
             &[(0, 1056)],
             &[(1056, entry(0, 1, 9)), (1064, entry(0, 0, 0))],
             &[HEADER, one],
+            &[],
         ),
-        // Track 1,999 is the last: what stands behind its entry isn't looked at.
+        // The file's end cuts a space. Behind the entry of track 1,999, the last, nothing is looked at.
         (
-            3152,
+            3149,
             &[(7, 1056)],
-            &[
-                (2712, entry(3104, 45, 48)),
-                (2720, entry(8, 0, 1)),
-                (2728, entry(3104, 45, 48)),
-            ],
-            &[HEADER, table(7, 1056), track(1999, 3104, 45, 48)],
+            &[(2712, entry(3104, 45, 48)), (2720, entry(8, 0, 1))],
+            &[HEADER, table(7, 1056), track(1999, 3104, 45, 45)],
+            &[],
         ),
-        // The greatest length.
+        // The tracks of a table that isn't kept aren't surveyed.
+        (
+            5200,
+            &[(0, 3104), (2, 1057), (3, 1055), (4, 3153), (5, 1056)],
+            &[(3104, entry(8, 1, 1))],
+            &[HEADER, table(5, 1056), table(0, 3104)],
+            &[
+                overlap(table(0, 3104), table(2, 1057)),
+                bad_table(3, 1055),
+                bad_table(4, 3153),
+                bad_entry(0, entry(8, 1, 1)),
+            ],
+        ),
+        // The newcomer is the second, also where it begins first, and one byte is enough.
+        (
+            5200,
+            &[(0, 1056)],
+            &[(1056, entry(3151, 45, 48)), (1064, entry(3104, 45, 48))],
+            &[HEADER, one, track(0, 3151, 45, 48)],
+            &[overlap(track(0, 3151, 45, 48), track(1, 3104, 45, 48))],
+        ),
+        // Of those that are met, the one of least position; here the track's own table.
+        (
+            5200,
+            &[(0, 1056)],
+            &[(1056, entry(3200, 9, 9)), (1064, entry(3103, 200, 200))],
+            &[HEADER, one, track(0, 3200, 9, 9)],
+            &[overlap(one, track(1, 3103, 200, 200))],
+        ),
+        // What shares bytes with a misfit alone is kept, and the survey goes on behind each misfit.
+        (
+            5200,
+            &[(0, 1056)],
+            &[
+                (1056, entry(4000, 10, 10)),
+                (1064, entry(3200, 10, 10)),
+                (1072, entry(3110, 1000, 1000)),
+                (1080, entry(3300, 10, 10)),
+                (1088, entry(4000, 0, 10)),
+                (1096, entry(3305, 10, 10)),
+                (1104, entry(0, 2, 2)),
+            ],
+            &[
+                HEADER,
+                one,
+                track(1, 3200, 10, 10),
+                track(3, 3300, 10, 10),
+                track(0, 4000, 10, 10),
+            ],
+            &[
+                overlap(track(1, 3200, 10, 10), track(2, 3110, 1000, 1000)),
+                bad_entry(4, entry(4000, 0, 10)),
+                overlap(track(3, 3300, 10, 10), track(5, 3305, 10, 10)),
+                bad_entry(6, entry(0, 2, 2)),
+            ],
+        ),
+        // The greatest length, and one that no entry can have.
         (
             68_640,
             &[(0, 1056)],
-            &[(1056, entry(3104, 65_528, 65_535))],
+            &[
+                (1056, entry(3104, 65_528, 65_535)),
+                (1064, entry(3104, 65_529, 65_535)),
+            ],
             &[HEADER, one, track(0, 3104, 65_528, 65_535)],
+            &[bad_entry(1, entry(3104, 65_529, 65_535))],
         ),
     ];
-    for (len, words, entries, wanted) in cases {
+    for (len, words, entries, kept, misfits) in cases {
         for order in [Order::Little, Order::Big] {
             let image = Image {
                 len,
                 words,
                 entries,
             };
-            let found = survey(rt.alloc(), &small(order, false), &image, &[])?;
-            let Ok(spaces) = found else {
-                return Err(Fail::new("refused"));
+            let l = small(order, false);
+            let Ok(found) = survey_of(rt.alloc(), &l, &image, &[])? else {
+                return Err(Fail::new("no survey"));
             };
-            assert_eq!(rt; spaces.as_slice(), wanted);
+            assert_eq!(rt; found.kept.as_slice(), kept);
+            assert_eq!(rt; found.misfits.as_slice(), misfits);
+            let first = misfits.first().copied().map(ScanFault::Misfit);
+            assert_eq!(rt; scan_of(rt.alloc(), &l, &image, &[])?.err(), first);
         }
     }
     Ok(())
 }
 
 #[test]
-fn see_parent_has_no_space_in_a_shadow(rt: HostRuntime) -> Result<(), Fail> {
+fn see_parent_is_a_misfit_in_a_base_alone(rt: HostRuntime) -> Result<(), Fail> {
     let image = Image {
         len: 3104,
         words: &[(0, 1056), (1, u32::MAX)],
         entries: &[(1056, entry(u32::MAX, 65_535, 65_535))],
     };
-    let found = survey(rt.alloc(), &small(Order::Little, true), &image, &[])?;
-    let Ok(spaces) = found else {
-        return Err(Fail::new("refused"));
-    };
-    assert_eq!(rt; spaces.as_slice(), [HEADER, table(0, 1056)].as_slice());
-    Ok(())
-}
-
-/// The first misfit of an image of a base.
-fn misfit(
-    alloc: Global,
-    len: usize,
-    words: Words,
-    entries: Entries,
-) -> Result<Option<ScanFault>, Fail> {
-    let image = Image {
-        len,
-        words,
-        entries,
-    };
-    Ok(survey(alloc, &small(Order::Little, false), &image, &[])?.err())
-}
-
-#[test]
-fn a_word_is_a_misfit(rt: HostRuntime) -> Result<(), Fail> {
-    let parent = Misfit::ParentInBase {
-        owner: Owner::Table(0),
-    };
-    let twice = Misfit::Overlap {
-        first: table(0, 1056),
-        second: table(1, 1056),
-    };
-    let by_a_byte = Misfit::Overlap {
-        first: table(0, 3104),
-        second: table(2, 1057),
-    };
-    let cases: [(usize, Words, Misfit); 8] = [
-        (5152, &[(0, 8)], Misfit::BadTable { group: 0, pos: 8 }),
-        (
-            5152,
-            &[(3, 1055)],
-            Misfit::BadTable {
-                group: 3,
-                pos: 1055,
-            },
-        ),
-        // The table's last byte passes the end.
-        (
-            3103,
-            &[(0, 1056)],
-            Misfit::BadTable {
-                group: 0,
-                pos: 1056,
-            },
-        ),
-        (5152, &[(0, u32::MAX)], parent),
-        (5152, &[(0, 1056), (1, 1056)], twice),
-        (5152, &[(0, 3104), (2, 1057)], by_a_byte),
-        // The first in the order of groups.
-        (5152, &[(0, 1056), (1, 1056), (2, 8)], twice),
-        (
-            5152,
-            &[(0, 1056), (1, 8), (2, 1056)],
-            Misfit::BadTable { group: 1, pos: 8 },
-        ),
+    let in_base = [
+        Misfit::ParentInBase {
+            owner: Owner::Table(1),
+        },
+        Misfit::ParentInBase {
+            owner: Owner::Track(0),
+        },
     ];
-    for (len, words, wanted) in cases {
-        let found = misfit(rt.alloc(), len, words, &[])?;
-        assert_eq!(rt; found, Some(ScanFault::Misfit(wanted)));
+    let cases: [(bool, &[Misfit]); 2] = [(true, &[]), (false, &in_base)];
+    for (shadow, misfits) in cases {
+        let l = small(Order::Little, shadow);
+        let Ok(found) = survey_of(rt.alloc(), &l, &image, &[])? else {
+            return Err(Fail::new("no survey"));
+        };
+        assert_eq!(rt; found.kept.as_slice(), [HEADER, table(0, 1056)].as_slice());
+        assert_eq!(rt; found.misfits.as_slice(), misfits);
     }
-    Ok(())
-}
-
-#[test]
-fn an_entry_is_a_misfit(rt: HostRuntime) -> Result<(), Fail> {
-    let bad = [
-        entry(99_999, 45, 48),
-        entry(0, 2, 2),
-        entry(1055, 45, 48),
-        entry(3104, 0, 48),
-        entry(3104, 65_529, 65_535),
-        entry(3104, 49, 48),
-        // Its last byte passes the end.
-        entry(80_000 - 44, 45, 48),
-    ];
-    for entry in bad {
-        let found = misfit(rt.alloc(), 80_000, &[(0, 1056)], &[(1096, entry)])?;
-        let wanted = Misfit::BadEntry { track: 5, entry };
-        assert_eq!(rt; found, Some(ScanFault::Misfit(wanted)));
-    }
-    let parent = entry(u32::MAX, 0, 0);
-    let found = misfit(rt.alloc(), 3104, &[(0, 1056)], &[(1064, parent)])?;
-    let owner = Owner::Track(1);
-    assert_eq!(rt;
-        found,
-        Some(ScanFault::Misfit(Misfit::ParentInBase { owner }))
-    );
-    Ok(())
-}
-
-#[test]
-fn a_space_shares_a_byte_with_one_before_it(rt: HostRuntime) -> Result<(), Fail> {
-    let cases: [(Entries, Extent, Extent); 6] = [
-        // Overlapping tracks.
-        (
-            &[(1056, entry(3104, 45, 48)), (1064, entry(3120, 45, 48))],
-            track(0, 3104, 45, 48),
-            track(1, 3120, 45, 48),
-        ),
-        // The newcomer is the second, also where it begins first, and one byte is enough.
-        (
-            &[(1056, entry(3151, 45, 48)), (1064, entry(3104, 45, 48))],
-            track(0, 3151, 45, 48),
-            track(1, 3104, 45, 48),
-        ),
-        // A track over its own table.
-        (
-            &[(1080, entry(3103, 45, 48))],
-            table(0, 1056),
-            track(3, 3103, 45, 48),
-        ),
-        // Of two that are met, the one of least position.
-        (
-            &[
-                (1056, entry(4000, 10, 10)),
-                (1064, entry(3200, 10, 10)),
-                (1072, entry(3110, 1000, 1000)),
-            ],
-            track(1, 3200, 10, 10),
-            track(2, 3110, 1000, 1000),
-        ),
-        // The first overlap in the order of tracks, before a bad entry and before an overlap of lower position.
-        (
-            &[
-                (1056, entry(4000, 10, 10)),
-                (1064, entry(4009, 10, 10)),
-                (1072, entry(3110, 10, 10)),
-                (1080, entry(3110, 10, 10)),
-                (1088, entry(8, 10, 10)),
-            ],
-            track(0, 4000, 10, 10),
-            track(1, 4009, 10, 10),
-        ),
-        // The space of a track that is cut by the file's end.
-        (
-            &[(1056, entry(5190, 10, 65_535)), (1064, entry(5199, 1, 8))],
-            track(0, 5190, 10, 10),
-            track(1, 5199, 1, 1),
-        ),
-    ];
-    for (entries, first, second) in cases {
-        let found = misfit(rt.alloc(), 5200, &[(0, 1056)], entries)?;
-        let wanted = Misfit::Overlap { first, second };
-        assert_eq!(rt; found, Some(ScanFault::Misfit(wanted)));
-    }
-    Ok(())
-}
-
-#[test]
-fn the_first_misfit_is_told(rt: HostRuntime) -> Result<(), Fail> {
-    let twice = [
-        (1056, entry(3104, 45, 48)),
-        (1064, entry(8, 45, 48)),
-        (1072, entry(3104, 45, 48)),
-    ];
-    // A bad entry before an overlap, and a bad table before all entries.
-    let found = misfit(rt.alloc(), 5200, &[(0, 1056)], &twice)?;
-    let bad = Misfit::BadEntry {
-        track: 1,
-        entry: entry(8, 45, 48),
-    };
-    assert_eq!(rt; found, Some(ScanFault::Misfit(bad)));
-    let found = misfit(rt.alloc(), 5200, &[(0, 1056), (7, 9)], &twice)?;
-    let bad = Misfit::BadTable { group: 7, pos: 9 };
-    assert_eq!(rt; found, Some(ScanFault::Misfit(bad)));
     Ok(())
 }
 
@@ -384,21 +311,15 @@ fn a_failing_read_is_told(rt: HostRuntime) -> Result<(), Fail> {
     let image = Image {
         len: 3104,
         words: &[(0, 1056), (1, 8)],
-        entries: &[],
-    };
-    let l = small(Order::Little, false);
-    assert_eq!(rt;
-        survey(rt.alloc(), &l, &image, &[3])?.err(),
-        Some(ScanFault::ReadFault)
-    );
-    let image = Image {
-        len: 3104,
-        words: &[(0, 1056)],
         entries: &[(1056, entry(8, 0, 0))],
     };
-    assert_eq!(rt;
-        survey(rt.alloc(), &l, &image, &[4])?.err(),
-        Some(ScanFault::ReadFault)
-    );
+    let l = small(Order::Little, false);
+    // The words, and then the table.
+    for call in [3, 4] {
+        let whole = survey_of(rt.alloc(), &l, &image, &[call])?;
+        assert_eq!(rt; whole.err(), Some(SurveyFault::ReadFault));
+        let first = scan_of(rt.alloc(), &l, &image, &[call])?;
+        assert_eq!(rt; first.err(), Some(ScanFault::ReadFault));
+    }
     Ok(())
 }
