@@ -1,11 +1,11 @@
 -- A part of a list is written, and the parts beside it stay.
-use Rattle.std.proofs.Common.{◌≡◌, ◌≢◌, ◌⊎◌, inl, inr, ℕ, zero, suc, ◌+◌, ◌-◌, ◌*◌, ◌≤◌, List, ◌++◌, length, take, drop, refl, sym, ap, ◌∙◌, subst, arith, length-append, length-take, length-drop}
-use Rattle.std.proofs.lemmas.List.{take-append-le, drop-append-le, take-append-drop}
+use Rattle.std.proofs.Common.{◌≡◌, ◌≢◌, ◌⊎◌, inl, inr, ℕ, zero, suc, ◌+◌, ◌-◌, ◌*◌, ◌≤◌, List, ◌++◌, length, take, drop, replicate, refl, sym, ap, ◌∙◌, subst, arith, length-append, length-take, length-drop}
+use Rattle.std.proofs.lemmas.List.{length-replicate, take-append-le, drop-append-le, take-append-drop}
 use Rattle.std.proofs.Math.Seq.{drop-append-add, take-append_seam, drop-append_seam}
 use Rattle.std.proofs.Math.Nat.{mul-le-mul_right}
 use Rattle.std.specs.List.{length_refill}
 use Rattle.cckd_frames.specs.Frames.{refilled}
-use Rattle.cckd_frames.specs.Store.{over}
+use Rattle.cckd_frames.specs.Store.{over, filled}
 
 pub length-refilled : (xs ys : List ℕ) → length (refilled xs ys) ≡ length xs
 length-refilled xs ys = sym (length_refill (length xs) xs ys refl)
@@ -27,6 +27,16 @@ pub part_right : (q k : ℕ) (xs ys : List ℕ) → length xs ≤ q → take k (
 part_right q k xs ys h =
     let e : length xs + (q - length xs) ≡ q = omega arith in
     ap (λ l. take k l) (subst (λ n. drop n (xs ++ ys) ≡ drop (q - length xs) ys) e (drop-append-add xs ys (q - length xs)))
+
+-- zeros behind the bytes reach up to n, and change none before them
+pub length-filled : (n : ℕ) (bs : List ℕ) → n ≤ length (filled n bs)
+length-filled n bs = omega (arith, length-append bs (replicate (n - length bs) 0), length-replicate {A = ℕ} (n - length bs) 0)
+
+pub filled_longer : (n : ℕ) (bs : List ℕ) → length bs ≤ length (filled n bs)
+filled_longer n bs = omega (arith, length-append bs (replicate (n - length bs) 0))
+
+pub part_filled : (q k n : ℕ) (bs : List ℕ) → q + k ≤ length bs → take k (drop q (filled n bs)) ≡ take k (drop q bs)
+part_filled q k n bs h = part_left q k bs (replicate (n - length bs) 0) h
 
 module _ (p n : ℕ) (xs ws : List ℕ) (inside : p + n ≤ length xs) where
   pub length-over : length (over p n xs ws) ≡ length xs

@@ -1,9 +1,9 @@
 -- What callers know of the entries once they have written to the bytes that `bytes_mut` lent, and once a mark or a length is set.
-use Rattle.std.proofs.Common.{◌≡◌, inl, inr, ℕ, zero, suc, ◌<◌, ◌≤◌, List, [], ◌∷◌, length, map, Option, All, refl, sym, ap, ◌∙◌, subst, arith}
+use Rattle.std.proofs.Common.{◌≡◌, ◌≢◌, inl, inr, ℕ, zero, suc, ◌<◌, ◌≤◌, List, [], ◌∷◌, length, map, Option, None, Some, IsNone, All, refl, sym, ap, ◌∙◌, subst, arith}
 use Rattle.std.proofs.lemmas.Bool.Decides.{eqb_tells}
 use Rattle.std.specs.List.{IsDistinct, length_refill}
 use Rattle.std.specs.Bool.{nat_eq}
-use Rattle.cckd_frames.specs.Frames.{Entry, Kept, IsKept, IsUsed, keys, frames, changed, resized, refilled, with_entries, with_mark, with_len, with_writes}
+use Rattle.cckd_frames.specs.Frames.{Entry, Kept, IsKept, IsUsed, keys, frames, entry_in, entry_of, without, promoted, changed, resized, refilled, with_entries, with_mark, with_len, with_writes}
 
 -- what a change keeps of each entry, it keeps of the list
 pub changed_keeps : {X : Type 0} (part : Entry → X) (frame : ℕ) (change : Entry → Entry) → ((e : Entry) → part (change e) ≡ part e)
@@ -95,3 +95,68 @@ frames_resized frame n es = changed_keeps (λ e. e.frame) frame (λ e. record { 
 
 pub keys_resized : (frame n : ℕ) (es : List Entry) → keys (with_len frame n es) ≡ keys es
 keys_resized frame n es = changed_keeps (λ e. e.key) frame (λ e. record { frame = e.frame; key = e.key; mark = e.mark; body = resized n e.body }) (λ e. refl) es
+
+-- a change in one frame leaves the entries of all others as they are
+pub others_stay : (frame other : ℕ) (change : Entry → Entry) → ((e : Entry) → (change e).frame ≡ e.frame) → other ≢ frame
+    → (es : List Entry) → entry_in other (changed frame change es) ≡ entry_in other es
+others_stay frame other change same ne [] = refl
+others_stay frame other change same ne (e ∷ es) =
+    let rest = others_stay frame other change same ne es in
+    elim (eqb_tells e.frame frame) [
+      | inl here ↦ (
+          let old : e.frame ≢ other = λ at. ne (sym at ∙ here.1) in let new : (change e).frame ≢ other = λ at. old (sym (same e) ∙ at) in
+          rw here.0 (elim (eqb_tells e.frame other) [
+            | inl t ↦ absurd (old t.1)
+            | inr t ↦ elim (eqb_tells (change e).frame other) [ inl u ↦ absurd (new u.1) | inr u ↦ rw (t.0, u.0) rest ]
+          ]))
+      | inr there ↦ rw there.0 (elim (eqb_tells e.frame other) [ inl t ↦ rw t.0 refl | inr t ↦ rw t.0 rest ])
+    ]
+
+pub others_written : (frame other : ℕ) (body : List ℕ) → other ≢ frame → (es : List Entry) → entry_in other (with_writes frame body es) ≡ entry_in other es
+others_written frame other body ne es = others_stay frame other (λ e. record { frame = e.frame; key = e.key; mark = e.mark; body = refilled e.body body }) (λ e. refl) ne es
+
+pub others_marked : (frame other : ℕ) (mark : Option ℕ) → other ≢ frame → (es : List Entry) → entry_in other (with_mark frame mark es) ≡ entry_in other es
+others_marked frame other mark ne es = others_stay frame other (λ e. record { frame = e.frame; key = e.key; mark = mark; body = e.body }) (λ e. refl) ne es
+
+pub others_resized : (frame other n : ℕ) → other ≢ frame → (es : List Entry) → entry_in other (with_len frame n es) ≡ entry_in other es
+others_resized frame other n ne es = others_stay frame other (λ e. record { frame = e.frame; key = e.key; mark = e.mark; body = resized n e.body }) (λ e. refl) ne es
+
+-- where no entry lies in the frame, nothing changes
+pub nothing_changed : (frame : ℕ) (change : Entry → Entry) (es : List Entry) → IsNone (entry_in frame es) → changed frame change es ≡ es
+nothing_changed frame change [] none = refl
+nothing_changed frame change (e ∷ es) none =
+    elim (eqb_tells e.frame frame) [
+      | inl here ↦ absurd (let h : IsNone (Some e) = (let g = rw here.0 at none in g) in cc h)
+      | inr there ↦ rw there.0 (ap (λ (l : List Entry). e ∷ l) (nothing_changed frame change es (let g = rw there.0 at none in g)))
+    ]
+
+-- the entry of a key says its key
+pub key_of_entry : (key : ℕ) (es : List Entry) (e : Entry) → entry_of key es ≡ Some e → e.key ≡ key
+key_of_entry key [] e is = absurd (cc is)
+key_of_entry key (x ∷ xs) e is =
+    elim (eqb_tells x.key key) [
+      | inl here ↦ (let g = rw here.0 at is in let same : x ≡ e = cc g in ap (λ (u : Entry). u.key) (sym same) ∙ here.1)
+      | inr there ↦ key_of_entry key xs e (let g = rw there.0 at is in g)
+    ]
+
+-- the entries of other keys are all there where one is left out
+pub without_keeps : (key other : ℕ) → other ≢ key → (es : List Entry) → entry_of other (without key es) ≡ entry_of other es
+without_keeps key other ne [] = refl
+without_keeps key other ne (e ∷ es) =
+    let rest = without_keeps key other ne es in
+    elim (eqb_tells e.key key) [
+      | inl here ↦ rw here.0 (elim (eqb_tells e.key other) [ inl t ↦ absurd (ne (sym t.1 ∙ here.1)) | inr t ↦ rw t.0 rest ])
+      | inr there ↦ rw there.0 (elim (eqb_tells e.key other) [ inl t ↦ rw t.0 refl | inr t ↦ rw t.0 rest ])
+    ]
+
+-- each key has the entry that it had, once one of them comes first
+pub promoted_keeps : (key other : ℕ) (es : List Entry) → entry_of other (promoted key es) ≡ entry_of other es
+promoted_keeps key other es = by_entry (entry_of key es) refl where
+  by_entry : (o : Option Entry) → entry_of key es ≡ o → entry_of other (promoted key es) ≡ entry_of other es
+  by_entry None is = rw (is, promoted) refl
+  by_entry (Some e) is =
+      let mine = key_of_entry key es e is in
+      rw (is, promoted) (elim (eqb_tells e.key other) [
+        | inl t ↦ rw t.0 (let same : key ≡ other = sym mine ∙ t.1 in sym (subst (λ k. entry_of k es ≡ Some e) same is))
+        | inr t ↦ rw t.0 (without_keeps key other (λ same. t.1 (mine ∙ sym same)) es)
+      ])

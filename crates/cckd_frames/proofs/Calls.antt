@@ -7,11 +7,12 @@ use Rattle.cckd_frames.specs.declared.node.Node.{Node}
 use Rattle.cckd_frames.specs.Whole.{IsWhole}
 use Rattle.cckd_frames.specs.Frames.{Entry, Kept, IsKept, keys, entry_of, entry_in, IsUsed, promoted, blank, with_entries}
 use Rattle.cckd_frames.specs.Nodes.{word, trail}
+use Rattle.cckd_frames.specs.Store.{filled}
 use Rattle.cckd_frames.specs.Table.{IsSound, bucket_of, node_with, nth_after, brought, taken, chosen, cleared, entry_at, entries_of}
 use Rattle.cckd_frames.proofs.Entries.{key-get, key-get-past, last_get}
 use Rattle.cckd_frames.proofs.Trails.{trail-get, length-trail}
 use Rattle.cckd_frames.proofs.States.{entries_are, in_use, entry_found, looked_up, entries_brought, entries_taken}
-use Rattle.cckd_frames.proofs.Writes.{no_such_key, sound_kept}
+use Rattle.cckd_frames.proofs.Writes.{no_such_key, sound_kept, entries_filled}
 
 -- what callers see of the parts
 abbrev pub seen : ℕ → ℕ → ℕ → List ℕ → List ℕ → Kept
@@ -21,7 +22,21 @@ seen count frame_len used ws bs = record { count = count; frame_len = frame_len;
 pub moved : {f g at : Ptr} {room : ℕ} {d : Deed Node Global} {alloc : Global} (count frame_len : ℕ) → g ≡ f → IsWhole count frame_len f at room d alloc → IsWhole count frame_len g at room d alloc
 moved {at = at} {room = room} {d = d} {alloc = alloc} count frame_len e = subst (λ p. IsWhole count frame_len p at room d alloc) (sym e)
 
+-- and more of its bytes are made
+pub reached : {f g at to : Ptr} {room size : ℕ} {d : Deed Node Global} {alloc : Global} (count frame_len : ℕ) → g ≡ f → to ≡ at → size ≡ room
+    → IsWhole count frame_len f at room d alloc → IsWhole count frame_len g to size d alloc
+reached {g = g} {at = at} {to = to} {room = room} {d = d} {alloc = alloc} count frame_len e place same w =
+    let a = moved count frame_len e w in
+    let b = subst (λ p. IsWhole count frame_len g p room d alloc) (sym place) a in
+    subst (λ n. IsWhole count frame_len g to n d alloc) (sym same) b
+
 module _ (count frame_len used : ℕ) (ws bs : List ℕ) (s : IsSound count frame_len used ws bs) where
+  -- more bytes are made, of which callers see nothing
+  pub seen_reached : (n : ℕ) (cs : List ℕ) → cs ≡ filled n bs → (k : Kept) → seen count frame_len used ws bs ≡ k → seen count frame_len used ws cs ≡ k
+  seen_reached n cs e k is =
+      ap (λ (l : List ℕ). seen count frame_len used ws l) e
+      ∙ (ap (λ (es : List Entry). with_entries (seen count frame_len used ws bs) es) (entries_filled count frame_len used ws bs s n) ∙ is)
+
   -- a node that a look-up gives
   pub found_at : (key x : ℕ) → node_with ws key (trail ws 2 (bucket_of count key) (word ws 5 (bucket_of count key))) ≡ Some x → (x < used) × (word ws 4 x ≡ key)
   found_at key x e =

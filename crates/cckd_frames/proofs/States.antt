@@ -213,8 +213,9 @@ module _ (count frame_len used : ℕ) (ws bs : List ℕ) (s : IsSound count fram
 
   pub sound_taken : (key : ℕ) → ((y : ℕ) → y < used → word ws 4 y ≢ key)
       → IsTable count (taken count (chosen count used ws) key (cleared count used ws))
+      → min count (used + 1) * frame_len ≤ length bs
       → IsSound count frame_len (min count (used + 1)) (taken count (chosen count used ws) key (cleared count used ws)) bs
-  sound_taken key fresh table =
+  sound_taken key fresh table made =
       let x = chosen count used ws in let left = cleared count used ws in let n = min count (used + 1) in let f = now_free in
       let P : ℕ → Type 0 = λ y. (y < n) × y ≢ x in let some = s.some_frames in
       let t = part_taken count x key left P f.rest f.number (λ q. q.1 refl) (λ y q e. fresh y (f.others y q.0 q.1) (sym (f.kept y).key ∙ e)) f.part in
@@ -234,7 +235,7 @@ module _ (count frame_len used : ℕ) (ws bs : List ℕ) (s : IsSound count fram
           | inl e ↦ (let z = blanked_len count x key left (omega arith) in let room = s.some_room in subst (λ u. word (blanked x key left) 6 u ≤ frame_len) (sym e) (omega arith))
           | inr ne ↦ rw ((blanked_other count x key left y ne).len, (f.kept y).len) (s.fitting y hy)
         ]);
-        room = s.room;
+        room = made;
       }
 
   pub entries_taken : (key : ℕ) → ((y : ℕ) → y < used → word ws 4 y ≢ key)

@@ -8,13 +8,13 @@ use Rattle.std.specs.List.{IsDistinct, AllByRecursion}
 use Rattle.std.specs.Bool.{nat_eq}
 use Rattle.cckd_frames.specs.Frames.{Entry, IsKept, keys, frames, entry_of, changed, refilled, resized, with_len, with_mark, with_writes}
 use Rattle.cckd_frames.specs.Nodes.{word, with_word, flag_of, mark_word, In, IsApart, IsRing, trail}
-use Rattle.cckd_frames.specs.Store.{over}
+use Rattle.cckd_frames.specs.Store.{over, filled}
 use Rattle.cckd_frames.specs.Table.{IsTable, IsSound, IsEmptied, marked, mark_of, entry_at, entries_of}
 use Rattle.cckd_frames.proofs.RingLemmas.{same_or_not, ring_stays, trail_of_path, word-set_node, word-set_column, word-set_here}
 use Rattle.cckd_frames.proofs.Tables.{index_kept}
-use Rattle.cckd_frames.proofs.Entries.{changed-map, frames-map, distinct_of, length-map, entry_of-absent}
+use Rattle.cckd_frames.proofs.Entries.{map-same, changed-map, frames-map, distinct_of, length-map, entry_of-absent}
 use Rattle.cckd_frames.proofs.States.{entries_are}
-use Rattle.cckd_frames.proofs.ByteLemmas.{length-over, over-here, over-beside, frames_apart, length-part, refilled-same}
+use Rattle.cckd_frames.proofs.ByteLemmas.{filled_longer, part_filled, length-over, over-here, over-beside, frames_apart, length-part, refilled-same}
 
 pub mark_back : (m : Option ℕ) → mark_of (flag_of m) (mark_word m) ≡ m
 mark_back None = refl
@@ -92,7 +92,7 @@ module _ (count frame_len used : ℕ) (ws bs : List ℕ) (s : IsSound count fram
     ring_same : IsRing 0 1 vs (2 * count) (λ x. x < used) s.order.0
     ring_same = ring_stays 0 1 ws (2 * count) (λ x. x < used) s.order.0 vs (λ x. x < used) (λ k q. q) (λ k q. q) (λ k _. links 0 k (lit< tt)) (λ k _. links 1 k (lit< tt)) s.order.1
 
-    pub sound_same : IsTable count vs → ((x : ℕ) → x < count → word vs 6 x ≤ frame_len) → length cs ≡ count * frame_len → IsSound count frame_len used vs cs
+    pub sound_same : IsTable count vs → ((x : ℕ) → x < count → word vs 6 x ≤ frame_len) → used * frame_len ≤ length cs → IsSound count frame_len used vs cs
     sound_same table fitting room = record {
       some_frames = s.some_frames;
       most_frames = s.most_frames;
@@ -142,25 +142,25 @@ module _ (count frame_len used : ℕ) (ws bs : List ℕ) (s : IsSound count fram
       (λ y hy ne i. record { frame = y; key = k 4 y (lit< tt) i; mark = mark_of (marked_others x mark 7 y (lit< tt) ne i) (marked_others x mark 8 y (lit< tt) ne i); body = take (k 6 y (lit< tt) i) (drop (y * frame_len) bs) })
 
   -- the part of a frame lies in the bytes
-  pub frame_inside : (x : ℕ) → x < count → x * frame_len + frame_len ≤ length bs
-  frame_inside x h = let r = s.room in omega (arith, mul-le-mul_right frame_len (let lt : x + 1 ≤ count = omega arith in lt))
+  pub frame_inside : (x : ℕ) → x < used → x * frame_len + frame_len ≤ length bs
+  frame_inside x h = let r = s.room in omega (arith, mul-le-mul_right frame_len (let lt : x + 1 ≤ used = omega arith in lt))
 
   -- bytes in one frame are written
-  pub other_body : (x y p n : ℕ) (cs : List ℕ) → x < count → y ≢ x → x * frame_len ≤ p → p + n ≤ x * frame_len + frame_len → word ws 6 y ≤ frame_len
+  pub other_body : (x y p n : ℕ) (cs : List ℕ) → x < used → y ≢ x → x * frame_len ≤ p → p + n ≤ x * frame_len + frame_len → word ws 6 y ≤ frame_len
       → take (word ws 6 y) (drop (y * frame_len) (over p n bs cs)) ≡ take (word ws 6 y) (drop (y * frame_len) bs)
   other_body x y p n cs hx ne lo hi fits =
       let inside = frame_inside x hx in
       over-beside p n bs cs (omega arith) (y * frame_len) (word ws 6 y) (elim (frames_apart x y frame_len (λ e. ne (sym e))) [ inl b ↦ inl (omega arith) | inr a ↦ inr (omega arith) ])
 
-  pub sound_written : (x p n : ℕ) (cs : List ℕ) → x < count → x * frame_len ≤ p → p + n ≤ x * frame_len + frame_len → IsSound count frame_len used ws (over p n bs cs)
+  pub sound_written : (x p n : ℕ) (cs : List ℕ) → x < used → x * frame_len ≤ p → p + n ≤ x * frame_len + frame_len → IsSound count frame_len used ws (over p n bs cs)
   sound_written x p n cs hx lo hi =
       let inside = frame_inside x hx in
-      sound_same ws (over p n bs cs) (λ c k h. refl) s.table s.fitting (length-over p n bs cs (omega arith) ∙ s.room)
+      sound_same ws (over p n bs cs) (λ c k h. refl) s.table s.fitting (let l = length-over p n bs cs (omega arith) in let r = s.room in omega arith)
 
   pub entries_written : (x : ℕ) (cs : List ℕ) → x < used
       → entries_of count frame_len used ws (over (x * frame_len) (word ws 6 x) bs cs) ≡ with_writes x cs (entries_of count frame_len used ws bs)
   entries_written x cs h =
-      let hx = s.index.within x h in let fits = s.fitting x hx in let inside = frame_inside x hx in
+      let hx = s.index.within x h in let fits = s.fitting x hx in let inside = frame_inside x h in
       let p = x * frame_len in let n = word ws 6 x in
       entries_changed ws (over p n bs cs) (λ c y lt. refl) x (λ e. record { frame = e.frame; key = e.key; mark = e.mark; body = refilled e.body cs })
       (λ i. record { frame = x; key = word ws 4 x; mark = mark_of (word ws 7 x) (word ws 8 x); body = over-here p n bs cs (omega arith) i })
@@ -168,7 +168,7 @@ module _ (count frame_len used : ℕ) (ws bs : List ℕ) (s : IsSound count fram
         frame = y;
         key = word ws 4 y;
         mark = mark_of (word ws 7 y) (word ws 8 y);
-        body = other_body x y p n cs hx ne (omega arith) (omega arith) (s.fitting y (s.index.within y hy)) i;
+        body = other_body x y p n cs h ne (omega arith) (omega arith) (s.fitting y (s.index.within y hy)) i;
       })
 
   -- the length of one entry
@@ -187,7 +187,7 @@ module _ (count frame_len used : ℕ) (ws bs : List ℕ) (s : IsSound count fram
       ]
 
   pub sound_len : (x n : ℕ) (cs : List ℕ) → x < count → n ≤ frame_len → length cs ≡ length bs → IsTable count (with_word ws 6 x n) → IsSound count frame_len used (with_word ws 6 x n) cs
-  sound_len x n cs hx fits same table = sound_same (with_word ws 6 x n) cs (λ c k h. len_links x n c k h) table (len_fits x n hx fits) (same ∙ s.room)
+  sound_len x n cs hx fits same table = sound_same (with_word ws 6 x n) cs (λ c k h. len_links x n c k h) table (len_fits x n hx fits) (let r = s.room in omega arith)
 
   entries_len : (x n : ℕ) (cs : List ℕ) → x < used → take n (drop (x * frame_len) cs) ≡ resized n (take (word ws 6 x) (drop (x * frame_len) bs))
       → ((y : ℕ) → y < used → y ≢ x → take (word ws 6 y) (drop (y * frame_len) cs) ≡ take (word ws 6 y) (drop (y * frame_len) bs))
@@ -208,7 +208,7 @@ module _ (count frame_len used : ℕ) (ws bs : List ℕ) (s : IsSound count fram
   pub entries_resized : (x n kept : ℕ) (zs : List ℕ) → x < used → n ≤ frame_len → kept ≡ min (word ws 6 x) n → zs ≡ replicate (n - kept) 0
       → entries_of count frame_len used (with_word ws 6 x n) (over (x * frame_len + kept) (n - kept) bs zs) ≡ with_len x n (entries_of count frame_len used ws bs)
   entries_resized x n kept zs h fits least zeros =
-      let hx = s.index.within x h in let inside = frame_inside x hx in let was_fits = s.fitting x hx in
+      let hx = s.index.within x h in let inside = frame_inside x h in let was_fits = s.fitting x hx in
       let p = x * frame_len in let was = word ws 6 x in let m = n - kept in
       let D = drop p bs in let O = over (p + kept) m bs zs in
       let l : length (take was D) ≡ was = length-part p was bs (omega arith) in
@@ -222,12 +222,37 @@ module _ (count frame_len used : ℕ) (ws bs : List ℕ) (s : IsSound count fram
       let cut : take n (take was D) ≡ take kept D = subst (λ k. take n (take was D) ≡ take k D) (sym least) (take_least n was D) in
       let old : resized n (take was D) ≡ take kept D ++ replicate m 0 = (λ i. cut i ++ replicate (gap i) 0) in
       entries_len x n O h (new ∙ (ap (λ (q : List ℕ). take kept D ++ q) zeros ∙ sym old))
-      (λ y hy ne. other_body x y (p + kept) m zs hx ne (omega arith) (omega arith) (s.fitting y (s.index.within y hy)))
+      (λ y hy ne. other_body x y (p + kept) m zs h ne (omega arith) (omega arith) (s.fitting y (s.index.within y hy)))
+
+-- more bytes are made behind those of the frames in use
+module _ (count frame_len used : ℕ) (ws bs : List ℕ) (s : IsSound count frame_len used ws bs) (n : ℕ) where
+  pub sound_filled : IsSound count frame_len used ws (filled n bs)
+  sound_filled =
+      sound_same count frame_len used ws bs s ws (filled n bs) (λ c k h. refl) s.table s.fitting (let r = s.room in let l = filled_longer n bs in omega arith)
+
+  pub entries_filled : entries_of count frame_len used ws (filled n bs) ≡ entries_of count frame_len used ws bs
+  unfolding sound_filled sound_same
+  entries_filled =
+      let f = entry_at frame_len ws bs in let g = entry_at frame_len ws (filled n bs) in let xs = s.order.0 in
+      entries_are count frame_len used ws (filled n bs) sound_filled
+      ∙ (map-same g f xs (λ y y_in i.
+          let h = s.order.1.only y y_in in
+          let fits = s.fitting y (s.index.within y h) in let inside = frame_inside count frame_len used ws bs s y h in
+          record {
+            frame = y;
+            key = word ws 4 y;
+            mark = mark_of (word ws 7 y) (word ws 8 y);
+            body = part_filled (y * frame_len) (word ws 6 y) n bs (omega arith) i;
+          })
+      ∙ sym (entries_are count frame_len used ws bs s))
+
+  pub sound_reached : (cs : List ℕ) → cs ≡ filled n bs → IsSound count frame_len used ws cs
+  sound_reached cs e = subst (λ (l : List ℕ). IsSound count frame_len used ws l) (sym e) sound_filled
 
 -- nothing is in use after the rings are emptied
 pub sound_emptied : (count frame_len : ℕ) (ws vs bs : List ℕ) → 1 ≤ count → count ≤ 4096 → 1 ≤ frame_len → frame_len ≤ 65536
-    → ((x : ℕ) → x < count → word ws 6 x ≤ frame_len) → length bs ≡ count * frame_len → IsTable count vs → IsEmptied count ws vs → IsSound count frame_len 0 vs bs
-sound_emptied count frame_len ws vs bs a b c d fits room table e = record {
+    → ((x : ℕ) → x < count → word ws 6 x ≤ frame_len) → IsTable count vs → IsEmptied count ws vs → IsSound count frame_len 0 vs bs
+sound_emptied count frame_len ws vs bs a b c d fits table e = record {
   some_frames = a;
   most_frames = b;
   some_room = c;
@@ -241,5 +266,5 @@ sound_emptied count frame_len ws vs bs a b c d fits room table e = record {
     bucket = λ k lo hi. ([], record { path = (e.after k lo hi, e.before k lo hi); apart = (λ i. i, tt); only = λ x i. absurd i; each = λ x m. absurd (let h = m.0 in omega arith) }, sym (e.members k lo hi));
   };
   fitting = λ x h. rw (e.lengths x) (fits x h);
-  room = room;
+  room = omega arith;
 }

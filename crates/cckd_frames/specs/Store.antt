@@ -1,5 +1,5 @@
 -- The bytes of all frames.
-use Rattle.std.specs.Prelude.{ℕ, List, ◌++◌, take, drop}
+use Rattle.std.specs.Prelude.{ℕ, ◌-◌, List, ◌++◌, length, take, drop, replicate}
 use denote.RawPtr.{Ptr}
 use Rattle.cckd_frames.specs.Frames.{refilled}
 
@@ -8,6 +8,10 @@ pub record Stored : Type 0 where
   pub at : Ptr
   pub room : ℕ
   pub bytes : List ℕ
+
+-- the bytes, and zeros behind them up to n
+abbrev pub filled : ℕ → List ℕ → List ℕ
+filled n bs = bs ++ replicate (n - length bs) 0
 
 -- the bytes with others in the place of the n from `at` on
 abbrev pub over : ℕ → ℕ → List ℕ → List ℕ → List ℕ

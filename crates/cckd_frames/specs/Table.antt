@@ -115,4 +115,5 @@ pub record IsSound (count frame_len used : ℕ) (ws bs : List ℕ) : Type 0 wher
   pub order : IsOrder count used ws (λ x. x < used)
   pub index : IsIndex count ws (λ x. x < used)
   pub fitting : (x : ℕ) → x < count → word ws length_column x ≤ frame_len
-  pub room : length bs ≡ count * frame_len
+  -- the bytes of each frame in use are made
+  pub room : used * frame_len ≤ length bs

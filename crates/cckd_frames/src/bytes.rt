@@ -1,5 +1,5 @@
 //! The bytes of all frames, one frame after another.
-ghost use Rattle.std.specs.Prelude.{◌≡◌, ◌+◌, ◌≤◌, [], replicate, length, take, drop, ⊤};
+ghost use Rattle.std.specs.Prelude.{◌≡◌, ◌+◌, ◌-◌, ◌≤◌, [], ◌++◌, replicate, length, take, drop, ⊤};
 ghost use Rattle.std.specs.Borrow.{sem};
 ghost use denote.RawPtr.{InBlock};
 
@@ -28,42 +28,71 @@ unsafe impl Send for BytePtr {}
 
 unsafe impl Sync for BytePtr {}
 
+/// The bytes that were made so far.
 pub(crate) struct Bytes {
     row: Row<u8>,
     first: BytePtr,
+    len: usize,
 }
 
 impl Model for Bytes {
-    ghost use Rattle.std.specs.Prelude.{◌≡◌};
+    ghost use Rattle.std.specs.Prelude.{◌≡◌, length};
+    ghost use denote.RawPtr.{InBlock};
     ghost use Rattle.cckd_frames.specs.Store.{Stored};
 
     ghost Value = { Stored };
 
     ghost view = { λ b. record { at = b.first.ptr; room = b.row.room; bytes = b.row.items } };
 
-    ghost invariant = { λ b. b.row.at ≡ b.first.ptr };
+    ghost invariant = { λ b. (b.row.at ≡ b.first.ptr) × (b.len ≡ length b.row.items) × InBlock b.first.ptr };
+}
+
+/// Puts zeros behind the `from` bytes of the row, up to `end`.
+fn fill_up(row: &mut Row<u8>, first: BytePtr, from: usize, end: usize)
+    requires place { (row.old.at ≡ first.ptr) × InBlock first.ptr }
+    requires part { (from ≡ length row.old.items) × (from ≤ end) × (end ≤ row.old.room) }
+    ensures place { (row.new.at ≡ row.old.at) × (row.new.room ≡ row.old.room) }
+    ensures zeros { row.new.items ≡ row.old.items ++ replicate (end - from) 0 }
+{
+    for at in from..end {
+        let next = unsafe { first.ptr.byte_add(at) };
+        row.push(next, 0);
+    }
 }
 
 impl Bytes {
     ghost use Rattle.cckd_frames.specs.Lending.{LendsBytes};
+    ghost use Rattle.cckd_frames.specs.Store.{filled};
 
-    /// `len` bytes, each 0.
-    pub(crate) fn new(mut row: Row<u8>, first: BytePtr, len: usize) -> Bytes
-        requires { (row.at ≡ first.ptr) × InBlock first.ptr × (row.items ≡ []) × (len ≤ row.room) }
+    /// No bytes yet.
+    pub(crate) fn new(row: Row<u8>, first: BytePtr) -> Bytes
+        requires { (row.at ≡ first.ptr) × InBlock first.ptr × (row.items ≡ []) }
         ensures place { (result.at ≡ first.ptr) × (result.room ≡ row.room) }
-        ensures zeros { result.bytes ≡ replicate len 0 }
+        ensures none { result.bytes ≡ [] }
     {
-        for at in 0..len {
-            let end = unsafe { first.ptr.byte_add(at) };
-            row.push(end, 0);
+        Bytes { row, first, len: 0 }
+    }
+
+    /// Makes the bytes up to `end` that aren't made yet, each 0.
+    pub(crate) fn reach(&mut self, end: usize)
+        requires { end ≤ self.old.room }
+        ensures place { (self.new.at ≡ self.old.at) × (self.new.room ≡ self.old.room) }
+        ensures filled { self.new.bytes ≡ filled end self.old.bytes }
+    {
+        if self.len < end {
+            fill_up(&mut self.row, self.first, self.len, end);
+            self.len = end;
         }
-        Bytes { row, first }
     }
 
     pub(crate) fn into_row(self) -> Row<u8>
         ensures { (result.at ≡ self.at) × (result.room ≡ self.room) }
     {
-        let Bytes { row, first: _ } = self;
+        let Bytes {
+            row,
+            first: _,
+            len: _,
+        } = self;
         row
     }
 

@@ -93,7 +93,7 @@ impl Frames {
             ptr: unsafe { first.offset(front as isize) as *mut u8 },
         };
         let mut nodes = Nodes::new(row, NodePtr { ptr: first }, front);
-        let bytes = Bytes::new(byte_row, behind, len);
+        let bytes = Bytes::new(byte_row, behind);
         clear(&mut nodes, count);
         Ok(Frames {
             nodes,
@@ -157,10 +157,12 @@ impl Frames {
         ensures kept { IsKept self.new }
     {
         let count = self.count;
-        let used = self.used;
-        let frame = choose(&mut self.nodes, count, used);
+        let used = count.min(self.used + 1);
+        // The bytes of a frame are made when it is used first.
+        self.bytes.reach(used as usize * self.frame_len as usize);
+        let frame = choose(&mut self.nodes, count, self.used);
         enter(&mut self.nodes, count, frame, key);
-        self.used = count.min(used + 1);
+        self.used = used;
         Frame(frame)
     }
 

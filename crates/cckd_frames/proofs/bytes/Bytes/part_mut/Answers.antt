@@ -5,7 +5,7 @@ use Rattle.cckd_frames.proofs.ByteLemmas.{refilled-same, length-over}
 use Rattle.cckd_frames.proofs.bytes.Bytes.part_mut.Goals as goal
 
 pub part_mut-requires : goal.part_mut-requires
-part_mut-requires c = (sym c.self.invariant, subst (λ (s : Stored). c.args.at + c.args.len ≤ length s.bytes) (sym c.self.view_is) c.requires)
+part_mut-requires c = (sym c.self.invariant.0, subst (λ (s : Stored). c.args.at + c.args.len ≤ length s.bytes) (sym c.self.view_is) c.requires)
 
 pub returns : goal.returns
 returns c =

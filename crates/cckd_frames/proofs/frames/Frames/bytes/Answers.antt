@@ -11,8 +11,9 @@ len_of-len-requires-clause-frame c =
 pub part-requires : goal.part-requires
 part-requires c =
     let i = c.self.inside in let x = c.args.f.0 in
-    let hx = in_count i.count i.frame_len i.used i.nodes.words i.bytes.bytes c.self.invariant.0 x (used_here i.count i.frame_len i.used i.nodes.words i.bytes.bytes c.self.invariant.0 c.args.self.now c.self.view_is x c.requires) in
-    let inside = frame_inside i.count i.frame_len i.used i.nodes.words i.bytes.bytes c.self.invariant.0 x hx in let fits = c.self.invariant.0.fitting x hx in
+    let h = used_here i.count i.frame_len i.used i.nodes.words i.bytes.bytes c.self.invariant.0 c.args.self.now c.self.view_is x c.requires in
+    let hx = in_count i.count i.frame_len i.used i.nodes.words i.bytes.bytes c.self.invariant.0 x h in
+    let inside = frame_inside i.count i.frame_len i.used i.nodes.words i.bytes.bytes c.self.invariant.0 x h in let fits = c.self.invariant.0.fitting x hx in
     let len = c.len_of-len.ensures in omega arith
 
 pub returns : goal.returns

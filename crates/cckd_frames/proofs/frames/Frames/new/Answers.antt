@@ -1,5 +1,5 @@
-use Rattle.std.proofs.Common.{◌<◌, ◌≤◌, ◌*◌, ◌+◌, ℕ, List, length, refl, sym, ap, ◌∙◌, subst, arith}
-use Rattle.std.proofs.lemmas.List.{get_or-replicate, length-replicate}
+use Rattle.std.proofs.Common.{◌<◌, ◌≤◌, ◌*◌, ◌+◌, ℕ, List, refl, sym, ap, ◌∙◌, subst, arith}
+use Rattle.std.proofs.lemmas.List.{get_or-replicate}
 use Rattle.std.proofs.Math.Facts.{to_z_pos}
 use Rattle.std.proofs.Math.IntN.{nat_abs}
 use mir.Syntax.{w64}
@@ -19,7 +19,7 @@ invariant_of-result c =
     let back = c.back_of-back.ensures in (
       sound_emptied c.args.count c.args.frame_len ws c.clear.new.nodes.words bs c.requires.count.0 c.requires.count.1 c.requires.frame_len.0 c.requires.frame_len.1
           (λ x h. subst (λ (l : List ℕ). word l 6 x ≤ c.args.frame_len) (sym c.new-nodes.ensures.words) (rw (get_or-replicate {A = ℕ} (9 * (2 * c.args.count + 1)) (9 * x + 6) 0 0 (omega arith)) (omega arith)))
-          (ap (λ (l : List ℕ). length l) c.new-bytes.ensures.zeros ∙ length-replicate (c.args.count * c.args.frame_len) 0) c.clear.ensures.table c.clear.ensures.emptied,
+          c.clear.ensures.table c.clear.ensures.emptied,
       record {
         deed_at = block.7 ∙ sym first;
         front = block.8;

@@ -18,7 +18,7 @@ part_mut-requires c =
     let was = c.len_of-was.ensures in
     let least = c.min-kept.ensures ∙ ap (λ n. min n c.args.len) was in
     let fits = subst (λ (k : Kept). c.args.len ≤ k.frame_len) (sym c.self.view_is) c.requires.fits in
-    let inside = frame_inside i.count i.frame_len i.used i.nodes.words i.bytes.bytes c.self.invariant.0 x (in_count i.count i.frame_len i.used i.nodes.words i.bytes.bytes c.self.invariant.0 x hx) in omega arith
+    let inside = frame_inside i.count i.frame_len i.used i.nodes.words i.bytes.bytes c.self.invariant.0 x hx in omega arith
 
 pub put_len-requires-clause-frame : goal.put_len-requires-clause-frame
 put_len-requires-clause-frame c =
@@ -33,7 +33,7 @@ invariant_of-self c =
     let fits = subst (λ (k : Kept). c.args.len ≤ k.frame_len) (sym c.self.view_is) c.requires.fits in
     let back = c.put_len.ensures.len in
     let at = x * i.frame_len + c.min-kept.result in let n = c.args.len - c.min-kept.result in
-    let inside = frame_inside i.count i.frame_len i.used i.nodes.words i.bytes.bytes c.self.invariant.0 x (in_count i.count i.frame_len i.used i.nodes.words i.bytes.bytes c.self.invariant.0 x hx) in (
+    let inside = frame_inside i.count i.frame_len i.used i.nodes.words i.bytes.bytes c.self.invariant.0 x hx in (
       subst (λ (l : List ℕ). IsSound i.count i.frame_len i.used l (over at n i.bytes.bytes c.fill.new.self)) (sym back)
           (sound_len i.count i.frame_len i.used i.nodes.words i.bytes.bytes c.self.invariant.0 x c.args.len (over at n i.bytes.bytes c.fill.new.self) (in_count i.count i.frame_len i.used i.nodes.words i.bytes.bytes c.self.invariant.0 x hx) fits
           (length-over at n i.bytes.bytes c.fill.new.self (omega arith)) (subst (λ (l : List ℕ). IsTable i.count l) back c.put_len.ensures.table)),
@@ -49,7 +49,7 @@ returns-clause-resized c =
     let fits = subst (λ (k : Kept). c.args.len ≤ k.frame_len) (sym c.self.view_is) c.requires.fits in
     let back = c.put_len.ensures.len in
     let at = x * i.frame_len + c.min-kept.result in let n = c.args.len - c.min-kept.result in
-    let inside = frame_inside i.count i.frame_len i.used i.nodes.words i.bytes.bytes c.self.invariant.0 x (in_count i.count i.frame_len i.used i.nodes.words i.bytes.bytes c.self.invariant.0 x hx) in
+    let inside = frame_inside i.count i.frame_len i.used i.nodes.words i.bytes.bytes c.self.invariant.0 x hx in
     let many = ap (λ (l : List ℕ). length l) c.part_mut.ensures.value ∙ length-part at n i.bytes.bytes (omega arith) in
     let zeros = c.fill.ensures.after (λ y e. e) ∙ ap (λ m. replicate m 0) many in
     subst (λ (k : Kept). seen i.count i.frame_len i.used (c.put_len.new.nodes.words) (over at n i.bytes.bytes c.fill.new.self) ≡ with_entries k (with_len x c.args.len k.entries)) c.self.view_is
