@@ -1,19 +1,14 @@
 -- The headers of a base: what was read of them, and what their tests say.
-use Rattle.std.proofs.Common.{◌≡◌, ⊎_elim, ℕ, zero, suc, ◌-◌, ◌<◌, ◌≤◌, min, nat_lt, Bool, true, false, ◌||◌, not, List, [], ◌∷◌, ◌++◌, length, take, drop, replicate, Option, Some, None, Result, Ok, Err, refl, sym, ◌∙◌, ap, subst, arith, append-nil}
-use Rattle.std.specs.List.{list_any}
-use Rattle.std.specs.Str.{bytes_eq}
-use Rattle.std.proofs.lemmas.Bool.{false≢true, or_parts, or_cases, not-false, cases_lt}
+use Rattle.std.proofs.Common.{◌≡◌, ⊎_elim, ℕ, zero, suc, ◌-◌, ◌<◌, ◌≤◌, min, List, [], ◌∷◌, ◌++◌, length, take, drop, replicate, Option, Some, None, Result, Ok, Err, refl, sym, ◌∙◌, ap, subst, arith, append-nil}
+use Rattle.std.proofs.lemmas.Bool.{cases_lt}
 use Rattle.std.proofs.lemmas.List.{take-append-le, take-replicate, drop-replicate, length-replicate}
-use Rattle.std.proofs.lemmas.Slice.Eq.{bytes_eq-Decides}
 use Rattle.std.proofs.Math.ListN.{drop_of_length-le}
 use Rattle.std.proofs.Math.Seq.{take-append-add, take-length}
 use Rattle.cckd_base.specs.declared.geometry.Layout.{Layout}
 use Rattle.cckd_base.specs.declared.fault.HeaderFault.{HeaderFault}
-use Rattle.cckd_base.specs.declared.fault.HeaderFault.TheVariants as fault
-use Rattle.cckd_base.specs.Geometry.{area_of, IsLayout}
-use Rattle.cckd_base.specs.Header.{base_identifier, shadow_identifier, identifier, headers_of, first_case, judged_in, header_cases, header_fault, layout_of}
+use Rattle.cckd_base.specs.Header.{base_identifier, headers_of, header_fault, layout_of}
 use Rattle.cckd_image.specs.declared.header.ImageHeader.{ImageHeader}
-use Rattle.cckd_image.specs.Image.{decoded, header_of, layout_by, IsHeader}
+use Rattle.cckd_image.specs.Image.{decoded, header_of, layout_by}
 use Rattle.cckd_top.specs.Opening.{base_fault, HasSoundHeaders}
 
 take_none : (n : ℕ) → take {A = ℕ} n [] ≡ []

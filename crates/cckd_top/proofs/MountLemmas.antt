@@ -1,5 +1,5 @@
 -- Steps of a mounting.
-use Rattle.std.proofs.Common.{◌≡◌, ℕ, Bool, true, false, IsTrue, List, [], ◌∷◌, Option, Some, None, unwrap_or, Result, Ok, Err, IfErr, inr, refl, sym, ◌∙◌, ap, subst, arith, append-nil}
+use Rattle.std.proofs.Common.{◌≡◌, ℕ, Bool, true, false, IsTrue, List, [], ◌∷◌, Option, Some, None, unwrap_or, Result, Ok, Err, IfErr, inr, refl, sym, ◌∙◌, ap, subst, arith}
 use Rattle.cckd_base.specs.declared.geometry.Layout.{Layout}
 use Rattle.cckd_base.specs.declared.fault.HeaderFault.{HeaderFault}
 use Rattle.cckd_base.specs.declared.misfit.Misfit.{Misfit}
@@ -8,7 +8,6 @@ use Rattle.cckd_tables.specs.Scan.{first_misfit}
 use Rattle.cckd_shelf.specs.declared.fault.Faults.{Faults}
 use Rattle.cckd_shelf.specs.Events.{Event, Synced}
 use Rattle.cckd_shelf.specs.Faults.{NoneFell}
-use Rattle.cckd_shelf.specs.Events.{output_of}
 use Rattle.cckd_shelf.specs.World.{World, IsSure, IsTied, file_of, held_by, after_sync}
 use Rattle.cckd_top.specs.declared.halt.Halt.{Halt}
 use Rattle.cckd_top.specs.declared.halt.Halt.TheVariants as halt

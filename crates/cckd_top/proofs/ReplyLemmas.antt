@@ -9,7 +9,7 @@ use Rattle.cckd_base.specs.declared.entry.L2Entry.{L2Entry}
 use Rattle.cckd_base.specs.declared.misfit.Misfit.{Misfit}
 use Rattle.cckd_base.specs.declared.reply.Reply.TheVariants as reply
 use Rattle.cckd_base.specs.Geometry.{track_count, IsGeometry, IsLayout, IsNullFormat}
-use Rattle.cckd_base.specs.Entry.{see_parent, null_entry, parent_entry, word_at, entry_by_word, entry_in_table, entry_at, bytes_by_entry}
+use Rattle.cckd_base.specs.Entry.{see_parent, null_entry, parent_entry, word_at, entry_by_word, entry_at, bytes_by_entry}
 use Rattle.cckd_base.specs.Misfit.{is_missized, table_misfit, entry_misfit}
 use Rattle.cckd_base.specs.Numbers.{bytes_at}
 use Rattle.cckd_base.specs.Track.{null_track, track_fault, track_value}

@@ -3,8 +3,9 @@ ghost use Rattle.std.specs.Prelude.{◌≡◌, vec_len, IfOk};
 use crate::mounting::mount;
 use crate::run_plain;
 use crate::serving::{Stop, serve};
+use cckd_memory::{Bytes, FileIn, MemoryStage, Op};
 use cckd_script::{LINE_LIMIT, LINE_ROOM};
-use cckd_shelf::{Bytes, FileIn, MemoryStage, Op, Slot};
+use cckd_shelf::Slot;
 use std::alloc::{AllocError, Global};
 use std::process::Abort;
 use std::test::Fail;
@@ -28,38 +29,6 @@ const WRITTEN: [Patch<'static>; 5] = [
     (3141, b"\xff\xff\xff\xff\xff\xff\xff\xff"),
 ];
 
-/// The same with a second write, of bytes bb, and closed: the first track's place is free.
-const LITTLE: [Patch<'static>; 7] = [
-    (
-        512,
-        b"\0\x03\x01\0\x08\0\0\0\0\x01\0\0\x80\x0c\0\0\x4d\x0c\0\0\x20\x0c\0\0\x30\0\0\0\x30\0\0\0\x01\0\0\0\x03\0\0\0",
-    ),
-    (1024, b"\x20\x04\0\0"),
-    (1056, b"\x50\x0c\0\0\x2d\0\x30\0"),
-    (3104, b"\0\0\0\0\x30\0\0\0"),
-    (3164, b"\x08"),
-    (3177, b"\x01\0\0\x08\xbb\xbb\xbb\xbb\xbb\xbb\xbb\xbb"),
-    (3189, b"\xff\xff\xff\xff\xff\xff\xff\xff"),
-];
-
-/// What changes in it where its numbers are big-endian.
-const BIG: [Patch<'static>; 4] = [
-    (
-        512,
-        b"\0\x03\x01\x02\0\0\0\x08\0\0\x01\0\0\0\x0c\x80\0\0\x0c\x4d\0\0\x0c\x20\0\0\0\x30\0\0\0\x30\0\0\0\x01\0\0\0\x03",
-    ),
-    (1024, b"\0\0\x04\x20"),
-    (1056, b"\0\0\x0c\x50\0\x2d\0\x30"),
-    (3104, b"\0\0\0\0\0\0\0\x30"),
-];
-
-/// The headers of a 3390-1 as it is made: 1,113 cylinders of 15 heads, 66 groups.
-const RAW_3390_1: [Patch<'static>; 3] = [
-    (0, b"CKD_C370\x0f\0\0\0\0\xde\0\0\x90"),
-    (512, b"\0\x03\x01\0\x42\0\0\0\0\x01"),
-    (552, b"\x59\x04\0\0\0\0\xff\xff"),
-];
-
 const NULL_0: &str =
     "track 0 0 37 0000000000000000000000000800000000000000000000000001000000ffffffffffffffff\n";
 
@@ -69,25 +38,9 @@ const NULL_1: &str =
 const STORED: &str =
     "track 0 0 45 0000000000000000000000000800000000000000000000000001000008aaaaaaaaaaaaaaaaffffffffffffffff\n";
 
-const STORED_BB: &str =
-    "track 0 0 45 0000000000000000000000000800000000000000000000000001000008bbbbbbbbbbbbbbbbffffffffffffffff\n";
-
-const LAST: &str =
-    "track 1112 14 37 000458000e0458000e0000000800000000000000000458000e01000000ffffffffffffffff\n";
-
-const NO_TRACK: &str = "refused: no such track\n";
-
-const TENTH_COLUMN: &str = "refused: line fault at column 10\n";
-
 const FIRST_COLUMN: &str = "refused: line fault at column 1\n";
 
-const LINE_TOO_LONG: &str = "refused: line too long\n";
-
 const SCRIPT_TOO_LONG: &str = "refused: script too long\n";
-
-const NOT_CCKD: &str = "refused: slot 0 not a CCKD image\n";
-
-const NOT_BUILT: &str = "refused: not built yet\n";
 
 const READ_FAULT: &str = "fault: read\n";
 
@@ -200,7 +153,7 @@ fn run(
         stage
             .ops()
             .iter()
-            .all(|op| matches!(op, Op::Out { .. } | Op::Sync { .. }))
+            .all(|op| matches!(op, Op::Put { .. } | Op::Sync { .. }))
     );
     assert_eq!(rt; stage.wanted(), 0);
     Ok((Vec::from_slice(alloc, stage.output())?, status.code))
@@ -243,21 +196,6 @@ fn reads(
     )
 }
 
-/// A disk of one file doesn't mount, for this reason.
-fn is_refused(rt: &impl Abort, alloc: Global, file: &[u8], output: &str) -> Result<(), Fail> {
-    reads(rt, alloc, file, "read 0 0\n", &[output], 3)
-}
-
-#[test]
-fn null_and_stored_tracks_are_read(rt: HostRuntime) -> Result<(), Fail> {
-    let alloc = rt.alloc();
-    let raw = small(alloc, 1056, &[])?;
-    reads(&rt, alloc, &raw, "read 0 0\n", &[NULL_0, CLOSED], 0)?;
-    reads(&rt, alloc, &raw, "read 0 0", &[NULL_0, CLOSED], 0)?;
-    let file = written(alloc, 3152, &[])?;
-    reads(&rt, alloc, &file, "read 0 0\n", &[STORED, CLOSED], 0)
-}
-
 /// What makes of a raw 2311 one with tracks of 65,024 bytes, whose track 0 is a record of 64,987 zeros.
 const LONGEST: [Patch<'static>; 6] = [
     (12, b"\0\xfe\0\0"),
@@ -296,131 +234,6 @@ fn the_longest_track_is_read_by_three_calls(rt: HostRuntime) -> Result<(), Fail>
         7,
     )?;
     runs(&rt, alloc, &files, b"read 0 0\n", &[27], &[], 7)
-}
-
-#[test]
-fn a_refused_line_does_not_end_the_run(rt: HostRuntime) -> Result<(), Fail> {
-    let alloc = rt.alloc();
-    let large = file_of(alloc, 1288, &RAW_3390_1)?;
-    reads(
-        &rt,
-        alloc,
-        &large,
-        "read 1112 14\nread 1113 0\nread 0 15\nread 1112 14\n",
-        &[LAST, NO_TRACK, NO_TRACK, LAST, CLOSED],
-        1,
-    )?;
-    let column = "refused: line fault at column 8\n";
-    reads(
-        &rt,
-        alloc,
-        &written(alloc, 3152, &[])?,
-        "# reads\n\nread 0 0\nread 200 0\nread 0 x\nread 0 1",
-        &[STORED, NO_TRACK, column, NULL_1, CLOSED],
-        1,
-    )
-}
-
-#[test]
-fn bytes_that_are_no_track_are_refused(rt: HostRuntime) -> Result<(), Fail> {
-    let alloc = rt.alloc();
-    let cases: [(Patch, &str); 4] = [
-        ((3104, b"\x01"), "refused: compressed 1\n"),
-        ((3106, b"\x09"), "refused: wrong track 9 0\n"),
-        ((3148, b"\0"), "refused: bad record at 37\n"),
-        ((1060, b"\x04"), "refused: no end at 4\n"),
-    ];
-    for (other, output) in cases {
-        let file = written(alloc, 3152, &[other])?;
-        reads(
-            &rt,
-            alloc,
-            &file,
-            "read 0 0\nread 0 1\n",
-            &[output, NULL_1, CLOSED],
-            1,
-        )?;
-    }
-    Ok(())
-}
-
-#[test]
-fn a_wrong_line_is_refused_at_its_column(rt: HostRuntime) -> Result<(), Fail> {
-    let alloc = rt.alloc();
-    let raw = small(alloc, 1056, &[])?;
-    let cases = [
-        ("read 0 x\n", "refused: line fault at column 8\n"),
-        ("read 0\n", "refused: line fault at column 7\n"),
-        ("read", "refused: line fault at column 5\n"),
-        ("read  0 0\n", "refused: line fault at column 6\n"),
-        ("read 65536 0\n", "refused: line fault at column 6\n"),
-        ("read 0 0 \n", TENTH_COLUMN),
-        ("read 0 0\r\n", "refused: line fault at column 8\n"),
-        ("harden\n", FIRST_COLUMN),
-        (" \n", FIRST_COLUMN),
-    ];
-    for (script, output) in cases {
-        reads(&rt, alloc, &raw, script, &[output, CLOSED], 1)?;
-    }
-    Ok(())
-}
-
-#[test]
-fn empty_lines_and_comments_have_no_reply(rt: HostRuntime) -> Result<(), Fail> {
-    let alloc = rt.alloc();
-    let raw = small(alloc, 1056, &[])?;
-    for script in ["", "\n", "\n\n", "#", "# read 0 0\n", "\n#\n\n# x"] {
-        reads(&rt, alloc, &raw, script, &[CLOSED], 0)?;
-    }
-    Ok(())
-}
-
-#[test]
-fn a_line_has_at_most_131072_bytes(rt: HostRuntime) -> Result<(), Fail> {
-    let alloc = rt.alloc();
-    let raw = small(alloc, 1056, &[])?;
-    let cases: [(&[u8], u8, usize, &[u8], &[&str], u8); 7] = [
-        (
-            b"read 0 0",
-            b' ',
-            131_072,
-            b"\n",
-            &[TENTH_COLUMN, CLOSED],
-            1,
-        ),
-        (b"read 0 0", b' ', 131_072, b"", &[TENTH_COLUMN, CLOSED], 1),
-        (
-            b"read 0 0",
-            b' ',
-            131_073,
-            b"\n",
-            &[LINE_TOO_LONG, CLOSED],
-            1,
-        ),
-        (b"", b'#', 131_072, b"\nread 0 0", &[NULL_0, CLOSED], 0),
-        (
-            b"",
-            b'#',
-            131_073,
-            b"\nread 0 0",
-            &[LINE_TOO_LONG, NULL_0, CLOSED],
-            1,
-        ),
-        (b"", b'#', 131_073, b"", &[LINE_TOO_LONG, CLOSED], 1),
-        (
-            b"",
-            b'#',
-            400_000,
-            b"\nread 0 0\n",
-            &[LINE_TOO_LONG, NULL_0, CLOSED],
-            1,
-        ),
-    ];
-    for (start, fill, len, end, output, status) in cases {
-        let script = long(alloc, start, fill, len, end)?;
-        runs(&rt, alloc, &[("v", &raw)], &script, &[], output, status)?;
-    }
-    Ok(())
 }
 
 /// How a script is served on a raw 2311 where it may have so many bytes, and what is printed.
@@ -495,217 +308,6 @@ fn a_script_is_served_up_to_its_limit(rt: HostRuntime) -> Result<(), Fail> {
     ];
     for (script, limit, output, status) in cases {
         is_limited(&rt, rt.alloc(), script, limit, output, status)?;
-    }
-    Ok(())
-}
-
-#[test]
-fn a_line_without_end_is_read_to_the_limit(rt: HostRuntime) -> Result<(), Fail> {
-    let alloc = rt.alloc();
-    let script = long(alloc, b"", b'#', 300_000, b"")?;
-    let cases: [(usize, &[&str]); 4] = [
-        (300_000, &[LINE_TOO_LONG, CLOSED]),
-        (299_999, &[SCRIPT_TOO_LONG, CLOSED]),
-        (131_073, &[SCRIPT_TOO_LONG, CLOSED]),
-        (131_072, &[SCRIPT_TOO_LONG, CLOSED]),
-    ];
-    for (limit, output) in cases {
-        is_limited(&rt, alloc, &script, limit, output, 1)?;
-    }
-    Ok(())
-}
-
-#[test]
-fn headers_that_are_wrong_are_named(rt: HostRuntime) -> Result<(), Fail> {
-    let alloc = rt.alloc();
-    let cases: [(Patch, &str); 14] = [
-        ((4, b"S"), NOT_CCKD),
-        ((8, b"\0"), "refused: slot 0 bad geometry heads 0\n"),
-        (
-            (8, b"\x01\0\x01"),
-            "refused: slot 0 bad geometry heads 65537\n",
-        ),
-        (
-            (8, b"\0\0\x01"),
-            "refused: slot 0 bad geometry tracks 13107200\n",
-        ),
-        ((552, b"\0"), "refused: slot 0 bad geometry cylinders 0\n"),
-        (
-            (12, b"\x24\0"),
-            "refused: slot 0 bad geometry track-size 36\n",
-        ),
-        (
-            (12, b"\x01\xfe"),
-            "refused: slot 0 bad geometry track-size 65025\n",
-        ),
-        ((17, b"\x02"), "refused: slot 0 bad geometry sequence 2\n"),
-        ((516, b"\x09"), "refused: slot 0 bad count level-one 9\n"),
-        // Where the image is big-endian, its counts are read so.
-        (
-            (515, b"\x02"),
-            "refused: slot 0 bad count level-one 134217728\n",
-        ),
-        ((520, b"\x01"), "refused: slot 0 bad count level-two 257\n"),
-        ((556, b"\x02"), "refused: slot 0 bad null format 2\n"),
-        // The first one is told of several.
-        (
-            (516, b"\x09\0\0\0\x01"),
-            "refused: slot 0 bad count level-one 9\n",
-        ),
-        (
-            (552, b"\0\0\0\0\x02"),
-            "refused: slot 0 bad geometry cylinders 0\n",
-        ),
-    ];
-    for (other, output) in cases {
-        is_refused(&rt, alloc, &small(alloc, 1056, &[other])?, output)?;
-    }
-    Ok(())
-}
-
-#[test]
-fn short_files_are_refused(rt: HostRuntime) -> Result<(), Fail> {
-    let alloc = rt.alloc();
-    let cases = [
-        (0, NOT_CCKD),
-        (1000, NOT_CCKD),
-        (1023, NOT_CCKD),
-        (1024, "refused: slot 0 bad count length 1024\n"),
-        (1040, "refused: slot 0 bad count length 1040\n"),
-        (1055, "refused: slot 0 bad count length 1055\n"),
-        (1056, "refused: slot 0 bad table group 0 at 1056\n"),
-        (3103, "refused: slot 0 bad table group 0 at 1056\n"),
-        (
-            3104,
-            "refused: slot 0 bad entry track 0 at 3104 length 45 size 48\n",
-        ),
-        (
-            3148,
-            "refused: slot 0 bad entry track 0 at 3104 length 45 size 48\n",
-        ),
-    ];
-    for (len, output) in cases {
-        is_refused(&rt, alloc, &written(alloc, len, &[])?, output)?;
-    }
-    let long_enough = written(alloc, 3149, &[])?;
-    reads(&rt, alloc, &long_enough, "read 0 0\n", &[STORED, CLOSED], 0)
-}
-
-#[test]
-fn tables_that_are_wrong_are_named(rt: HostRuntime) -> Result<(), Fail> {
-    let alloc = rt.alloc();
-    let cases: [(Patch, &str); 9] = [
-        (
-            (1024, b"\x08\0"),
-            "refused: slot 0 bad table group 0 at 8\n",
-        ),
-        (
-            (1024, b"\x61\x04"),
-            "refused: slot 0 bad table group 0 at 1121\n",
-        ),
-        (
-            (1024, b"\xff\xff\xff\xff"),
-            "refused: slot 0 parent in base table 0\n",
-        ),
-        (
-            (1028, b"\x20\x04"),
-            "refused: slot 0 overlap table 0 at 1056 for 2048 and table 1 at 1056 for 2048\n",
-        ),
-        (
-            (1064, b"\x30\x0c\0\0\x2d\0\x30\0"),
-            "refused: slot 0 overlap track 0 at 3104 for 48 and track 1 at 3120 for 48\n",
-        ),
-        (
-            (1096, b"\x9f\x86\x01\0\x2d\0\x30\0"),
-            "refused: slot 0 bad entry track 5 at 99999 length 45 size 48\n",
-        ),
-        (
-            (1056, b"\0\0\0\0\x02\0\x02\0"),
-            "refused: slot 0 bad entry track 0 at 0 length 2 size 2\n",
-        ),
-        (
-            (1056, b"\xff\xff\xff\xff"),
-            "refused: slot 0 parent in base track 0\n",
-        ),
-        (
-            (1062, b"\x2c\0"),
-            "refused: slot 0 bad entry track 0 at 3104 length 45 size 44\n",
-        ),
-    ];
-    for (other, output) in cases {
-        is_refused(&rt, alloc, &written(alloc, 3168, &[other])?, output)?;
-    }
-    Ok(())
-}
-
-#[test]
-fn both_byte_orders_are_read_alike(rt: HostRuntime) -> Result<(), Fail> {
-    let alloc = rt.alloc();
-    let mut file = written(alloc, 3200, &LITTLE)?;
-    let script = "read 0 0\nread 0 1\n";
-    reads(&rt, alloc, &file, script, &[STORED_BB, NULL_1, CLOSED], 0)?;
-    patch_all(&mut file, &BIG);
-    reads(&rt, alloc, &file, script, &[STORED_BB, NULL_1, CLOSED], 0)?;
-    // The free space may have the other form.
-    patch_all(&mut file, &[(3104, b"FREE_BLK")]);
-    reads(&rt, alloc, &file, script, &[STORED_BB, NULL_1, CLOSED], 0)
-}
-
-#[test]
-fn a_shadow_that_is_there_is_not_served_yet(rt: HostRuntime) -> Result<(), Fail> {
-    let alloc = rt.alloc();
-    let raw = small(alloc, 1056, &[])?;
-    let cases: [(&str, usize, Patch, &[&str], u8); 8] = [
-        ("v.sf1", 1, (0, b""), &[NOT_BUILT], 3),
-        ("v.sf8", 511, (0, b""), &[NOT_BUILT], 3),
-        ("v.sf8", 512, (511, b"\x01"), &[NOT_BUILT], 3),
-        ("v.sf4", 1056, (0, b"CKD_C370"), &[NOT_BUILT], 3),
-        ("v.sf1", 0, (0, b""), &[NULL_0, CLOSED], 0),
-        ("v.sf8", 512, (0, b""), &[NULL_0, CLOSED], 0),
-        ("v.sf8", 513, (512, b"\x01"), &[NULL_0, CLOSED], 0),
-        ("v.sf9", 1, (0, b""), &[NULL_0, CLOSED], 0),
-    ];
-    for (name, len, other, output, status) in cases {
-        let shadow = file_of(alloc, len, &[other])?;
-        let files: [(&str, &[u8]); 2] = [("v", &raw), (name, &shadow)];
-        runs(&rt, alloc, &files, b"read 0 0\n", &[], output, status)?;
-    }
-    Ok(())
-}
-
-#[test]
-fn a_bad_base_is_told_before_a_shadow(rt: HostRuntime) -> Result<(), Fail> {
-    let alloc = rt.alloc();
-    let cases: [(Patch, &str); 2] = [
-        ((8, b"\0"), "refused: slot 0 bad geometry heads 0\n"),
-        (
-            (1024, b"\x08\0"),
-            "refused: slot 0 bad table group 0 at 8\n",
-        ),
-    ];
-    for (other, output) in cases {
-        let base = written(alloc, 3152, &[other])?;
-        let files: [(&str, &[u8]); 2] = [("v", &base), ("v.sf1", b"x")];
-        runs(&rt, alloc, &files, b"read 0 0\n", &[], &[output], 3)?;
-    }
-    Ok(())
-}
-
-#[test]
-fn wrong_words_are_named_by_their_number(rt: HostRuntime) -> Result<(), Fail> {
-    let cases: [(&[&str], &str); 7] = [
-        (&[], "bad words at 0\n"),
-        (&["cckdmulti", "v"], "bad words at 0\n"),
-        (&["cckdrun"], "bad words at 1\n"),
-        (&["cckdrun", ""], "bad words at 1\n"),
-        (&["cckdrun", "-limit", "4096", "v"], "bad words at 1\n"),
-        (&["cckdrun", "--help"], "bad words at 1\n"),
-        (&["cckdrun", "v", "w"], "bad words at 2\n"),
-    ];
-    for (words, output) in cases {
-        let (printed, code) = run(&rt, rt.alloc(), words, &[], b"read 0 0\n", &[])?;
-        assert_eq!(rt; printed.as_slice(), output.as_bytes());
-        assert_eq!(rt; code, 2);
     }
     Ok(())
 }
