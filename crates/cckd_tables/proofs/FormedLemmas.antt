@@ -65,9 +65,6 @@ entry_formed l n t e x h =
     let least : 1 ≤ e.len = omega arith in
     subst (IsFormed n) (sym c.1) (record { some = least; holds = omega arith; within = omega arith })
 
-pub header_formed : (groups n : ℕ) → area_of groups ≤ n → IsFormed n (header_space groups)
-header_formed groups n h = record { some = omega arith; holds = omega arith; within = omega arith }
-
 -- an item is of a formed space, if of one
 pub table_item_formed : (l : Layout) (n group word : ℕ) (item : Item) → item ≡ table_item l n group word → HasFormed n item
 table_item_formed l n group word (Err m) e = tt

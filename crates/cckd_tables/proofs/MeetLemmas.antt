@@ -26,11 +26,6 @@ holders_append : (at : ℕ) (xs ys : List Extent) → holders at (xs ++ ys) ≡ 
 holders_append at [] ys = omega arith
 holders_append at (x ∷ xs) ys = omega (arith, holders_append at xs ys)
 
-pub share_ends : (a b : Extent) → share_a_byte a b ≡ true → (a.pos < b.pos + b.size) × (b.pos < a.pos + a.size)
-share_ends a b h =
-    let p = and_parts _ _ h in
-    (ltb-true _ _ p.0, ltb-true _ _ p.1)
-
 pub share_not : (a b : Extent) → share_a_byte a b ≡ false → a.pos < b.pos + b.size → b.pos < a.pos + a.size → ⊥
 share_not a b h low high =
     let e : share_a_byte a b ≡ true = and_from _ _ (lt-ltb _ _ low) (lt-ltb _ _ high) in
