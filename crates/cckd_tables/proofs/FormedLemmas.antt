@@ -10,7 +10,7 @@ use Rattle.cckd_base.specs.declared.space.Extent.{Extent}
 use Rattle.cckd_base.specs.declared.space.Owner.TheVariants.{Table, Track}
 use Rattle.cckd_base.specs.declared.misfit.Misfit.{Misfit}
 use Rattle.cckd_base.specs.declared.misfit.Misfit.TheVariants.{BadTable, BadEntry, ParentInBase}
-use Rattle.cckd_base.specs.Geometry.{is_null_format, area_of}
+use Rattle.cckd_base.specs.Geometry.{is_null_format}
 use Rattle.cckd_base.specs.Numbers.{number_at}
 use Rattle.cckd_base.specs.Entry.{see_parent}
 use Rattle.cckd_base.specs.Misfit.{is_misplaced, is_missized}
