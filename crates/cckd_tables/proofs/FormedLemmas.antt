@@ -10,7 +10,7 @@ use Rattle.cckd_base.specs.declared.space.Extent.{Extent}
 use Rattle.cckd_base.specs.declared.space.Owner.TheVariants.{Table, Track}
 use Rattle.cckd_base.specs.declared.misfit.Misfit.{Misfit}
 use Rattle.cckd_base.specs.declared.misfit.Misfit.TheVariants.{BadTable, BadEntry, ParentInBase}
-use Rattle.cckd_base.specs.Geometry.{is_null_format, area_of}
+use Rattle.cckd_base.specs.Geometry.{is_null_format}
 use Rattle.cckd_base.specs.Numbers.{number_at}
 use Rattle.cckd_base.specs.Entry.{see_parent}
 use Rattle.cckd_base.specs.Misfit.{is_misplaced, is_missized}
@@ -64,9 +64,6 @@ entry_formed l n t e x h =
     let fits = ltb-false e.size e.len sizes.1 in
     let least : 1 ≤ e.len = omega arith in
     subst (IsFormed n) (sym c.1) (record { some = least; holds = omega arith; within = omega arith })
-
-pub header_formed : (groups n : ℕ) → area_of groups ≤ n → IsFormed n (header_space groups)
-header_formed groups n h = record { some = omega arith; holds = omega arith; within = omega arith }
 
 -- an item is of a formed space, if of one
 pub table_item_formed : (l : Layout) (n group word : ℕ) (item : Item) → item ≡ table_item l n group word → HasFormed n item

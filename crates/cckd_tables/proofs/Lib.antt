@@ -1,9 +1,10 @@
 pub mod MeetLemmas
 pub mod OrderLemmas
+pub mod RunLemmas
+pub mod NearLemmas
 pub mod KeptLemmas
 pub mod TakeLemmas
 pub mod ItemLemmas
 pub mod FormedLemmas
 pub mod FileLemmas
 pub mod SurveyLemmas
-pub mod ReadLemmas

@@ -1,7 +1,7 @@
 -- Spaces that share a byte.
 use Rattle.std.proofs.Common.{◌≡◌, ℕ, ◌+◌, ◌<◌, ◌≤◌, nat_le, nat_lt, Bool, true, false, cond, List, [], ◌∷◌, ◌++◌, Option, Some, None, refl, sym, ◌∙◌, ap, arith, ◌⊎◌, inl, inr}
 use Rattle.std.specs.List.{AllByRecursion}
-use Rattle.std.proofs.lemmas.Bool.{leb-false, cond_both, ltb-true, lt-ltb, le-ltb, le-leb, lt-leb, and_parts, and_from, and_left, and_right, cond-true, cond-false, cases_lt, cases_Bool}
+use Rattle.std.proofs.lemmas.Bool.{leb-false, cond_both, lt-ltb, le-ltb, le-leb, lt-leb, and_from, and_left, and_right, cond-true, cond-false, cases_lt, cases_Bool}
 use Rattle.cckd_base.specs.declared.space.Extent.{Extent}
 use Rattle.cckd_base.specs.Survey.{share_a_byte, lower, met, placed_among, by_position}
 use Rattle.cckd_tables.specs.Kept.{holding, holders, AreApart}
@@ -25,11 +25,6 @@ hold_once at e = at_most _
 holders_append : (at : ℕ) (xs ys : List Extent) → holders at (xs ++ ys) ≡ holders at xs + holders at ys
 holders_append at [] ys = omega arith
 holders_append at (x ∷ xs) ys = omega (arith, holders_append at xs ys)
-
-pub share_ends : (a b : Extent) → share_a_byte a b ≡ true → (a.pos < b.pos + b.size) × (b.pos < a.pos + a.size)
-share_ends a b h =
-    let p = and_parts _ _ h in
-    (ltb-true _ _ p.0, ltb-true _ _ p.1)
 
 pub share_not : (a b : Extent) → share_a_byte a b ≡ false → a.pos < b.pos + b.size → b.pos < a.pos + a.size → ⊥
 share_not a b h low high =

@@ -1,5 +1,5 @@
 -- The survey of an image, from what was taken.
-use Rattle.std.proofs.Common.{◌≡◌, ℕ, List, [], ◌∷◌, ◌++◌, nat_le, Some, None, Ok, Err, refl, sym, ◌∙◌, ap, subst, arith}
+use Rattle.std.proofs.Common.{◌≡◌, ◌≢◌, ℕ, List, [], ◌∷◌, ◌++◌, nat_le, Result, Some, None, Ok, Err, IfOk, inl, inr, append_assoc, refl, sym, ◌∙◌, ap, subst, arith}
 use Rattle.std.specs.Prelude.{Vec}
 use Rattle.std.specs.List.{flat_map}
 use Rattle.std.specs.Option.{is_none}
@@ -8,13 +8,20 @@ use Rattle.cckd_base.specs.declared.geometry.Layout.{Layout}
 use Rattle.cckd_base.specs.declared.space.Extent.{Extent}
 use Rattle.cckd_base.specs.declared.misfit.Misfit.{Misfit}
 use Rattle.cckd_base.specs.Survey.{Item, met, kept_after, misfits_after, placed_among, by_position, header_space, table_items, entry_items, entry_items_in, items, misfits, used_spaces}
+use Rattle.cckd_base.specs.Survey.{HasNoMisfit}
+use Rattle.cckd_base.specs.declared.misfit.ScanFault.{ScanFault}
+use Rattle.cckd_base.specs.declared.misfit.ScanFault.TheVariants as fault
+use Rattle.cckd_shelf.specs.declared.fault.Faults.{Faults}
+use Rattle.std.proofs.lemmas.List.{append-nil}
 use Rattle.cckd_tables.specs.declared.progress.Progress.{Progress}
-use Rattle.cckd_tables.specs.Inside.{AreFormed, IsUnderWay, IsHeaded, HasTaken, Takes}
+use Rattle.cckd_tables.specs.declared.progress.Until.{Until}
+use Rattle.cckd_tables.specs.declared.progress.Until.TheVariants.{End, FirstMisfit}
+use Rattle.cckd_tables.specs.Inside.{AreFormed, IsUnderWay, IsHeaded, HasReached, HasTaken, Takes, TakesFront, Answers}
 use Rattle.cckd_tables.specs.Kept.{stand_apart}
 use Rattle.cckd_tables.specs.declared.surveyed.Surveyed.{Surveyed}
-use Rattle.cckd_tables.specs.Scan.{AreSpaces, IsSurveyOf, IsSurvey}
+use Rattle.cckd_tables.specs.Scan.{AreSpaces, IsSurveyOf, IsSurvey, CountsScan, first_misfit}
 use Rattle.cckd_tables.proofs.OrderLemmas.{in_order_within, formed_moved, position_moves, position_stands}
-use Rattle.cckd_tables.proofs.TakeLemmas.{have_bytes, takes_then, takes_same}
+use Rattle.cckd_tables.proofs.TakeLemmas.{have_bytes, takes_then, misfits_append}
 
 -- the header area stays first
 header_stays_first : (groups : ℕ) (xs : List Extent) → by_position (header_space groups ∷ xs) ≡ header_space groups ∷ by_position xs
@@ -51,25 +58,93 @@ headed_after groups n ks is a b e t =
     record { rest = h.0; headed = t.kept ∙ ap (λ (k : List Extent). kept_after k is) e ∙ h.1 }
 
 -- the tables were taken, and then the tracks of those that were kept
-pub all_taken : (n : ℕ) (l : Layout) (file : List ℕ) (tables : List Extent) (a b c : Progress) → a.spaces.items ≡ header_space l.groups ∷ [] → a.misfits.items ≡ []
-    → Takes n (table_items l file) a b → tables ≡ b.spaces.items → Takes n (flat_map (entry_items_in l file) tables) b c → HasTaken l file c
-unfolding entry_items misfits
-all_taken n l file tables a b c e f t g u =
-    let kept : tables ≡ kept_after (header_space l.groups ∷ []) (table_items l file) = g ∙ t.kept ∙ ap (λ (k : List Extent). kept_after k (table_items l file)) e in
-    let whole : Takes n (items l file) a c =
-    takes_then n (table_items l file) (entry_items l file) a b c t (takes_same n _ (entry_items l file) b c (ap (flat_map (entry_items_in l file)) kept) u) in
-    record {
-      kept = whole.kept ∙ ap (λ (k : List Extent). kept_after k (items l file)) e;
-      misfits = whole.misfits ∙ ap (λ (ms : List Misfit). ms ++ misfits_after a.spaces.items (items l file)) f
-          ∙ ap (λ (k : List Extent). misfits_after k (items l file)) e;
-    }
+kept_tables_are : (n : ℕ) (l : Layout) (file : List ℕ) (tables : List Extent) (a b : Progress) → a.spaces.items ≡ header_space l.groups ∷ []
+    → Takes n (table_items l file) a b → tables ≡ b.spaces.items → flat_map (entry_items_in l file) tables ≡ entry_items l file
+unfolding entry_items
+kept_tables_are n l file tables a b e t g =
+    ap (flat_map (entry_items_in l file)) (g ∙ t.kept ∙ ap (λ (k : List Extent). kept_after k (table_items l file)) e)
 
-pub whole_survey : (l : Layout) (file : List ℕ) (p : Progress) (s : Surveyed) → HasTaken l file p → s.kept.items ≡ by_position p.spaces.items
+taken_so_far : (n : ℕ) (l : Layout) (until : Until) (file : List ℕ) (front left : List Item) (a b : Progress) → a.spaces.items ≡ header_space l.groups ∷ [] → a.misfits.items ≡ []
+    → items l file ≡ front ++ left → Takes n front a b → HasReached until b left → HasTaken l until file b
+taken_so_far n l until file front left a b e f p t r = record {
+  front = front;
+  left = left;
+  parts = p;
+  kept = t.kept ∙ ap (λ (k : List Extent). kept_after k front) e;
+  misfits = t.misfits ∙ ap (λ (ms : List Misfit). ms ++ misfits_after a.spaces.items front) f ∙ ap (λ (k : List Extent). misfits_after k front) e;
+  reached = r;
+}
+
+pub tables_taken : (n : ℕ) (l : Layout) (until : Until) (file : List ℕ) (a b : Progress) → a.spaces.items ≡ header_space l.groups ∷ [] → a.misfits.items ≡ []
+    → Takes n (table_items l file) a b → (until ≡ FirstMisfit) × (b.misfits.items ≢ []) → HasTaken l until file b
+tables_taken n l until file a b e f t r = taken_so_far n l until file (table_items l file) (entry_items l file) a b e f refl t (inr r)
+
+pub all_taken : (n : ℕ) (l : Layout) (until : Until) (file : List ℕ) (tables : List Extent) (a b c : Progress) → a.spaces.items ≡ header_space l.groups ∷ [] → a.misfits.items ≡ []
+    → Takes n (table_items l file) a b → tables ≡ b.spaces.items → TakesFront n until (flat_map (entry_items_in l file) tables) b c → HasTaken l until file c
+all_taken n l until file tables a b c e f t g u =
+    taken_so_far n l until file (table_items l file ++ u.front) u.left a c e f
+    (ap (λ (is : List Item). table_items l file ++ is) (sym (kept_tables_are n l file tables a b e t g) ∙ u.parts) ∙ sym (append_assoc (table_items l file) u.front u.left))
+    (takes_then n (table_items l file) u.front a b c t u.takes) u.reached
+
+-- nothing is left where it went to the end, and where it met no misfit
+none_left : (l : Layout) (until : Until) (file : List ℕ) (p : Progress) (t : HasTaken l until file p) → ((until ≡ FirstMisfit) × (p.misfits.items ≢ []) → ⊥) → items l file ≡ t.front
+none_left l until file p t n = elim t.reached [
+  | inl e ↦ t.parts ∙ ap (λ (is : List Item). t.front ++ is) e ∙ append-nil t.front
+  | inr r ↦ absurd (n r)
+]
+
+survey_with : (l : Layout) (file : List ℕ) (p : Progress) (s : Surveyed) (front : List Item) → items l file ≡ front
+    → p.spaces.items ≡ kept_after (header_space l.groups ∷ []) front → p.misfits.items ≡ misfits_after (header_space l.groups ∷ []) front
+    → s.kept.items ≡ by_position p.spaces.items → s.misfits.items ≡ p.misfits.items → IsSurveyOf l file s
+unfolding used_spaces misfits
+survey_with l file p s front e k m f g = record {
+  kept = f ∙ ap by_position (k ∙ ap (kept_after (header_space l.groups ∷ [])) (sym e));
+  misfits = g ∙ m ∙ ap (misfits_after (header_space l.groups ∷ [])) (sym e);
+}
+
+pub whole_survey : (l : Layout) (file : List ℕ) (p : Progress) (s : Surveyed) → HasTaken l End file p → s.kept.items ≡ by_position p.spaces.items
     → s.misfits.items ≡ p.misfits.items → IsSurveyOf l file s
-unfolding used_spaces
-whole_survey l file p s t k m = record { kept = k ∙ ap by_position t.kept; misfits = m ∙ t.misfits }
+whole_survey l file p s t f g = survey_with l file p s t.front (none_left l End file p t (λ r. end_goes_on r.0)) t.kept t.misfits f g
+  where
+    end_goes_on : End ≡ FirstMisfit → ⊥
+    end_goes_on e = cc
 
--- the first case of a survey: no misfit, or the first
-pub scanned : {Z : Type 0} (l : Layout) (file : List ℕ) (s : Surveyed) (spaces : Vec Extent Z) → IsSurveyOf l file s → s.misfits.items ≡ []
-    → spaces.items ≡ s.kept.items → IsSurvey l file (Ok spaces)
-scanned l file s spaces h none e = (sym h.misfits ∙ none, e ∙ h.kept)
+-- the first case: there is no misfit, or the first
+first_append : (ms ns : List Misfit) (m : Misfit) → first_misfit ms ≡ Some m → first_misfit (ms ++ ns) ≡ Some m
+first_append [] ns m h = absurd cc
+first_append (x ∷ ms) ns m h = h
+
+first_told : (l : Layout) (file : List ℕ) (p : Progress) (m : Misfit) → HasTaken l FirstMisfit file p → first_misfit p.misfits.items ≡ Some m
+    → first_misfit (misfits l file) ≡ Some m
+unfolding misfits
+first_told l file p m t h =
+    ap (λ (is : List Item). first_misfit (misfits_after (header_space l.groups ∷ []) is)) t.parts
+    ∙ ap first_misfit (misfits_append (header_space l.groups ∷ []) t.front t.left)
+    ∙ first_append (misfits_after (header_space l.groups ∷ []) t.front) _ m (ap first_misfit (sym t.misfits) ∙ h)
+
+none_told : (l : Layout) (file : List ℕ) (p : Progress) (spaces : List Extent) → HasTaken l FirstMisfit file p → p.misfits.items ≡ []
+    → spaces ≡ by_position p.spaces.items → HasNoMisfit l file × (spaces ≡ used_spaces l file)
+unfolding misfits used_spaces
+none_told l file p spaces t n e =
+    let all = none_left l FirstMisfit file p t (λ r. r.1 n) in (
+      ap (misfits_after (header_space l.groups ∷ [])) all ∙ sym t.misfits ∙ n,
+      e ∙ ap by_position (t.kept ∙ ap (kept_after (header_space l.groups ∷ [])) (sym all)),
+    )
+
+pub answered : {Z : Type 0} (l : Layout) (file : List ℕ) (p : Progress) (r : Result (Vec Extent Z) ScanFault) → HasTaken l FirstMisfit file p → Answers p r → IsSurvey l file r
+answered l file p (Ok spaces) t h = none_told l file p spaces.items t h.0 h.1
+answered l file p (Err (fault.Misfit m)) t h = first_told l file p m t h
+answered l file p (Err fault.ReadFault) t h = absurd h
+answered l file p (Err fault.Memory) t h = absurd h
+
+pub answered_spaces : {Z : Type 0} (groups n : ℕ) (p : Progress) (r : Result (Vec Extent Z) ScanFault) → IsUnderWay n p → IsHeaded groups p.spaces.items → Answers p r
+    → IfOk r (λ (spaces : Vec Extent Z). AreSpaces groups n spaces.items)
+answered_spaces groups n p (Ok spaces) u e h = are_spaces groups n p e.rest spaces.items u e.headed h.1
+answered_spaces groups n p (Err found) u e h = tt
+
+-- it left the counts of what it read
+pub answered_counts : {Z : Type 0} (p : Progress) (r : Result (Vec Extent Z) ScanFault) (old new : Faults) → Answers p r → new ≡ old → CountsScan r old new
+answered_counts p (Ok spaces) old new h e = e
+answered_counts p (Err (fault.Misfit m)) old new h e = e
+answered_counts p (Err fault.ReadFault) old new h e = absurd h
+answered_counts p (Err fault.Memory) old new h e = absurd h

@@ -1,16 +1,18 @@
 -- Items that are taken in turn.
-use Rattle.std.proofs.Common.{◌≡◌, ℕ, ◌+◌, ◌<◌, ◌≤◌, length, take, get_or, cond, List, [], ◌∷◌, ◌++◌, Option, Some, None, Ok, refl, sym, ◌∙◌, ap, subst, arith, append_assoc}
+use Rattle.std.proofs.Common.{◌≡◌, ℕ, ◌+◌, ◌<◌, ◌≤◌, ◌≢◌, length, take, drop, get_or, take_all, inl, inr, cond, List, [], ◌∷◌, ◌++◌, Option, Some, None, Ok, refl, sym, ◌∙◌, ap, subst, arith, append_assoc}
 use Rattle.std.specs.Option.{option_map, option_to_list, is_none}
 use Rattle.std.specs.List.{flat_map}
 use Rattle.std.proofs.lemmas.Grind.{flat_map-append}
-use Rattle.std.proofs.lemmas.List.{append-nil, take_more}
+use Rattle.std.proofs.lemmas.List.{append-nil, take_more, take-append-drop}
 use Rattle.std.proofs.lemmas.List.Sorted.{IsPermutation-to_front}
 use Rattle.cckd_base.specs.declared.space.Extent.{Extent}
 use Rattle.cckd_base.specs.declared.misfit.Misfit.{Misfit}
 use Rattle.cckd_base.specs.declared.misfit.Misfit.TheVariants.{Overlap}
 use Rattle.cckd_base.specs.Survey.{Item, met, kept_with, misfit_beside, kept_after, misfits_after, placed_among, by_position}
 use Rattle.cckd_tables.specs.declared.progress.Progress.{Progress}
-use Rattle.cckd_tables.specs.Inside.{IsFormed, AreFormed, IsUnderWay, Takes, TakesSome}
+use Rattle.cckd_tables.specs.declared.progress.Until.{Until}
+use Rattle.cckd_tables.specs.declared.progress.Until.TheVariants.{FirstMisfit}
+use Rattle.cckd_tables.specs.Inside.{TakesFront, IsFormed, AreFormed, IsUnderWay, Takes, TakesSome}
 use Rattle.cckd_tables.specs.Kept.{HaveBytes, AreApart}
 use Rattle.cckd_tables.proofs.MeetLemmas.{apart_more, met_by_position}
 use Rattle.cckd_tables.proofs.OrderLemmas.{same_order, all_between}
@@ -20,7 +22,7 @@ kept_append : (kept : List Extent) (is js : List Item) → kept_after kept (is +
 kept_append kept [] js = refl
 kept_append kept (i ∷ is) js = kept_append (kept_with kept i) is js
 
-misfits_append : (kept : List Extent) (is js : List Item) → misfits_after kept (is ++ js) ≡ misfits_after kept is ++ misfits_after (kept_after kept is) js
+pub misfits_append : (kept : List Extent) (is js : List Item) → misfits_after kept (is ++ js) ≡ misfits_after kept is ++ misfits_after (kept_after kept is) js
 misfits_append kept [] js = refl
 misfits_append kept (i ∷ is) js =
     ap (λ (ms : List Misfit). option_to_list (misfit_beside kept i) ++ ms) (misfits_append (kept_with kept i) is js)
@@ -107,3 +109,27 @@ pub row_more : (entries : Extent → List Item) (tables : List Extent) (i : ℕ)
 row_more entries tables i d l =
     sym (ap (flat_map entries) (take_more tables i d l) ∙ flat_map-append entries (take i tables) (get_or tables i d ∷ [])
     ∙ ap (λ (is : List Item). flat_map entries (take i tables) ++ is) (append-nil (entries (get_or tables i d))))
+
+row_parts : (entries : Extent → List Item) (tables : List Extent) (i : ℕ) → flat_map entries tables ≡ flat_map entries (take i tables) ++ flat_map entries (drop i tables)
+row_parts entries tables i =
+    ap (flat_map entries) (sym (take-append-drop i tables)) ∙ flat_map-append entries (take i tables) (drop i tables)
+
+pub ended_early : (n : ℕ) (until : Until) (entries : Extent → List Item) (tables : List Extent) (i : ℕ) (a b : Progress)
+    → Takes n (flat_map entries (take i tables)) a b → (until ≡ FirstMisfit) × (b.misfits.items ≢ []) → TakesFront n until (flat_map entries tables) a b
+ended_early n until entries tables i a b t r = record {
+  front = flat_map entries (take i tables);
+  left = flat_map entries (drop i tables);
+  parts = row_parts entries tables i;
+  takes = t;
+  reached = inr r;
+}
+
+pub went_to_the_end : (n : ℕ) (until : Until) (entries : Extent → List Item) (tables : List Extent) (i : ℕ) (a b : Progress)
+    → Takes n (flat_map entries (take i tables)) a b → length tables ≤ i → TakesFront n until (flat_map entries tables) a b
+went_to_the_end n until entries tables i a b t l = record {
+  front = flat_map entries (take i tables);
+  left = [];
+  parts = ap (flat_map entries) (sym (take_all i tables l)) ∙ sym (append-nil (flat_map entries (take i tables)));
+  takes = t;
+  reached = inl refl;
+}

@@ -1,5 +1,5 @@
 -- What the parts of a survey say to each other.
-use Rattle.std.specs.Prelude.{ℕ, ◌≡◌, ◌+◌, ◌*◌, ◌-◌, ◌<◌, ◌≤◌, ◌%◌, min, List, [], ◌∷◌, ◌++◌, map, Some, None, Ok, Err}
+use Rattle.std.specs.Prelude.{Result, Vec, ℕ, ◌≡◌, ◌≢◌, ◌⊎◌, ◌+◌, ◌*◌, ◌-◌, ◌<◌, ◌≤◌, ◌%◌, min, List, [], ◌∷◌, ◌++◌, map, Some, None, Ok, Err}
 use Rattle.std.specs.List.{range_with_len, AllByRecursion}
 use Rattle.std.specs.Int.{w32}
 use Rattle.cckd_base.specs.declared.geometry.Layout.{Layout}
@@ -8,11 +8,16 @@ use Rattle.cckd_base.specs.declared.space.Owner.{Owner}
 use Rattle.cckd_base.specs.declared.space.Owner.TheVariants.{Nobody, Header, Table, Track}
 use Rattle.cckd_base.specs.Numbers.{number_at, bytes_at}
 use Rattle.cckd_base.specs.Entry.{entry_of}
-use Rattle.cckd_base.specs.Survey.{Item, header_space, table_item, entry_item, kept_after, misfits_after, by_position, items, misfits}
+use Rattle.cckd_base.specs.Survey.{Item, header_space, table_item, entry_item, kept_after, misfits_after, by_position, items}
 use Rattle.cckd_shelf.specs.Seen.{Seen, Tells}
 use Rattle.cckd_shelf.specs.World.{IsSure, file_of}
 use Rattle.cckd_base.specs.Geometry.{track_count}
 use Rattle.cckd_tables.specs.declared.progress.Progress.{Progress}
+use Rattle.cckd_tables.specs.declared.progress.Until.{Until}
+use Rattle.cckd_tables.specs.declared.progress.Until.TheVariants.{FirstMisfit}
+use Rattle.cckd_base.specs.declared.misfit.ScanFault.{ScanFault}
+use Rattle.cckd_base.specs.declared.misfit.ScanFault.TheVariants as fault
+use Rattle.cckd_tables.specs.Scan.{first_misfit}
 use Rattle.cckd_tables.specs.Kept.{AreApart}
 
 -- it is in use from its first byte on, and ends inside the file
@@ -73,16 +78,39 @@ pub record TakesSome (file_len : ℕ) (old new : Progress) : Type 0 where
   pub items : List Item
   pub takes : Takes file_len items old new
 
--- a survey has taken all of a file, beginning with the header area
-pub record HasTaken (l : Layout) (file : List ℕ) (s : Progress) : Type 0 where
-  pub kept : s.spaces.items ≡ kept_after (header_space l.groups ∷ []) (items l file)
-  pub misfits : s.misfits.items ≡ misfits l file
+-- no item is left, or there was a misfit at which it should end
+abbrev pub HasReached : Until → Progress → List Item → Type 0
+HasReached until s left = (left ≡ []) ⊎ ((until ≡ FirstMisfit) × (s.misfits.items ≢ []))
+
+-- it has taken a front of these items, as far as it should
+pub record TakesFront (file_len : ℕ) (until : Until) (items : List Item) (old new : Progress) : Type 0 where
+  pub front : List Item
+  pub left : List Item
+  pub parts : items ≡ front ++ left
+  pub takes : Takes file_len front old new
+  pub reached : HasReached until new left
+
+-- a survey has taken a file as far as it should, beginning with the header area
+pub record HasTaken (l : Layout) (until : Until) (file : List ℕ) (s : Progress) : Type 0 where
+  pub front : List Item
+  pub left : List Item
+  pub parts : items l file ≡ front ++ left
+  pub kept : s.spaces.items ≡ kept_after (header_space l.groups ∷ []) front
+  pub misfits : s.misfits.items ≡ misfits_after (header_space l.groups ∷ []) front
+  pub reached : HasReached until s left
 
 -- the header area comes first
 pub record IsHeaded (groups : ℕ) (spaces : List Extent) : Type 0 where
   pub rest : List Extent
   pub headed : spaces ≡ header_space groups ∷ rest
 
--- the whole file of a slot was taken, as far as it is told
-abbrev pub HasTakenAll : Layout → ℕ → Seen → Progress → Type 0
-HasTakenAll l slot s taken = Tells s → IsSure s.world → HasTaken l (file_of s.world slot) taken
+-- so is the file of a slot, as far as it is told
+abbrev pub HasTakenIn : Layout → Until → ℕ → Seen → Progress → Type 0
+HasTakenIn l until slot s taken = Tells s → IsSure s.world → HasTaken l until (file_of s.world slot) taken
+
+-- the kept spaces in order of position where there is no misfit, and else the first misfit
+abbrev pub Answers : {Z : Type 0} → Progress → Result (Vec Extent Z) ScanFault → Type 0
+Answers s (Ok spaces) = (s.misfits.items ≡ []) × (spaces.items ≡ by_position s.spaces.items)
+Answers s (Err (fault.Misfit m)) = first_misfit s.misfits.items ≡ Some m
+Answers s (Err fault.ReadFault) = ⊥
+Answers s (Err fault.Memory) = ⊥

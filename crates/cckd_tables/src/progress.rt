@@ -1,16 +1,26 @@
 //! How far a survey has come through the items of an image.
-ghost use Rattle.std.specs.Prelude.{◌≡◌, ◌+◌, ◌*◌, ◌<◌, ◌≤◌, [], ◌∷◌, Ok, Some, length, IfOk, OnOk};
+ghost use Rattle.std.specs.Prelude.{◌≡◌, ◌≢◌, ◌↔◌, ◌+◌, ◌*◌, ◌<◌, ◌≤◌, [], ◌∷◌, Ok, Some, length, IfOk, OnOk, IsTrue};
 ghost use Rattle.std.specs.Int.{w32};
 ghost use Rattle.std.specs.List.Sorted.{IsPermutation, IsNonDecreasingBy};
 ghost use Rattle.cckd_base.specs.Numbers.{number_at};
 ghost use Rattle.cckd_base.specs.Geometry.{area_of, IsLayout};
 ghost use Rattle.cckd_base.specs.Survey.{header_space, by_position};
+ghost use Rattle.cckd_tables.specs.declared.progress.Until.TheVariants.{FirstMisfit};
 ghost use Rattle.cckd_tables.specs.Inside.{IsFormed, HasFormed, IsUnderWay, Takes, items_of_words, items_of_table, tracks_end};
 
 use crate::item::{entry_item, header_space, table_item};
 use crate::kept::Kept;
 use cckd_base::{Extent, GROUP_TRACKS, L2Entry, Layout, Memory, Misfit, part};
 use std::alloc::Global;
+
+/// How far a survey goes.
+#[derive(Clone, Copy)]
+pub(crate) enum Until {
+    /// To the last entry.
+    End,
+    /// No table is looked at behind the first misfit.
+    FirstMisfit,
+}
 
 /// What was kept of the items so far, and what was wrong with them.
 #[derive(Drop)]
@@ -56,6 +66,16 @@ impl Progress {
             kept,
             misfits: Vec::new(alloc),
         })
+    }
+
+    /// Whether it has gone as far as it should.
+    pub(crate) fn is_done(&self, until: Until) -> bool
+        ensures { IsTrue result ↔ ((until ≡ FirstMisfit) × (self.now.misfits.items ≢ [])) }
+    {
+        match until {
+            Until::End => false,
+            Until::FirstMisfit => !self.misfits.is_empty(),
+        }
     }
 
     /// Keeps the space of an item, or notes what is wrong with it.

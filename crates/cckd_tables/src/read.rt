@@ -6,9 +6,9 @@ ghost use Rattle.cckd_shelf.specs.World.{IsSure, file_of};
 ghost use Rattle.cckd_base.specs.Geometry.{area_of, IsLayout};
 ghost use Rattle.cckd_base.specs.Survey.{entry_items_in};
 ghost use Rattle.cckd_tables.specs.Scan.{OnlyReads};
-ghost use Rattle.cckd_tables.specs.Inside.{IsFormed, IsTableSpace, AreFormed, AreTableSpaces, IsUnderWay, Takes, TakesSome};
+ghost use Rattle.cckd_tables.specs.Inside.{IsFormed, IsTableSpace, AreFormed, AreTableSpaces, IsUnderWay, Takes, TakesFront, TakesSome};
 
-use crate::progress::Progress;
+use crate::progress::{Progress, Until};
 use crate::surveyed::SurveyFault;
 use cckd_base::{Extent, Layout, Owner, TABLE_LEN, WORDS_AT};
 use cckd_shelf::{Slot, Stage};
@@ -89,6 +89,7 @@ pub(crate) fn take_all_tracks<T: Stage>(
     l: &Layout,
     len: u32,
     tables: &[Extent],
+    until: Until,
     survey: &mut Progress,
 ) -> Result<(), SurveyFault>
     requires under_way { IsUnderWay len survey.old }
@@ -96,12 +97,15 @@ pub(crate) fn take_all_tracks<T: Stage>(
     requires formed { AreFormed len tables.now }
     requires tables { AreTableSpaces l.now.groups tables.now }
     requires length { IsLength slot len (seen T.Shows stage.old) }
-    ensures takes { Tells (seen T.Shows stage.old) → IsSure (seen T.Shows stage.old).world → OnOk result
-        (Takes len (flat_map (entry_items_in l.now (file_of (seen T.Shows stage.old).world slot)) tables.now) survey.old survey.new) }
+    ensures takes { Tells (seen T.Shows stage.old) → IsSure (seen T.Shows stage.old).world → OnOk result (TakesFront len until
+        (flat_map (entry_items_in l.now (file_of (seen T.Shows stage.old).world slot)) tables.now) survey.old survey.new) }
     ensures some { OnOk result (TakesSome len survey.old survey.new) }
     ensures reads { OnlyReads result (seen T.Shows stage.old) (seen T.Shows stage.new) }
 {
     for table in tables {
+        if survey.is_done(until) {
+            return Ok(());
+        }
         take_tracks(stage, slot, l, len, table, survey)?;
     }
     Ok(())

@@ -314,12 +314,16 @@ fn a_failing_read_is_told(rt: HostRuntime) -> Result<(), Fail> {
         entries: &[(1056, entry(8, 0, 0))],
     };
     let l = small(Order::Little, false);
-    // The words, and then the table.
-    for call in [3, 4] {
+    // The words, and then the table, which a scan doesn't read behind a word that is a misfit.
+    let cases = [
+        (3, ScanFault::ReadFault),
+        (4, ScanFault::Misfit(bad_table(1, 8))),
+    ];
+    for (call, first) in cases {
         let whole = survey_of(rt.alloc(), &l, &image, &[call])?;
         assert_eq!(rt; whole.err(), Some(SurveyFault::ReadFault));
-        let first = scan_of(rt.alloc(), &l, &image, &[call])?;
-        assert_eq!(rt; first.err(), Some(ScanFault::ReadFault));
+        let scanned = scan_of(rt.alloc(), &l, &image, &[call])?;
+        assert_eq!(rt; scanned.err(), Some(first));
     }
     Ok(())
 }

@@ -1,6 +1,6 @@
 use Rattle.std.proofs.Common.{◌≤◌, length, ◌∙◌, sym, arith}
 use Rattle.std.proofs.lemmas.Bool.{eqb-false, eqb-true}
-use Rattle.cckd_tables.proofs.KeptLemmas.{end_at_last, end_of_none}
+use Rattle.cckd_tables.proofs.RunLemmas.{end_at_last, end_of_none}
 use Rattle.cckd_tables.proofs.kept.end_of.Goals as goal
 
 pub returns : goal.returns

@@ -4,7 +4,8 @@ use Rattle.std.proofs.lemmas.List.Sorted.{IsPartitionPoint-from_clause, IsPartit
 use Rattle.cckd_base.specs.declared.space.Extent.{Extent}
 use Rattle.cckd_base.specs.declared.space.Owner.TheVariants.{Nobody}
 use Rattle.cckd_base.specs.Survey.{lower}
-use Rattle.cckd_tables.proofs.KeptLemmas.{run_met, run_parts, stand_rises}
+use Rattle.cckd_tables.proofs.RunLemmas.{stand_rises}
+use Rattle.cckd_tables.proofs.NearLemmas.{run_met, run_parts}
 use Rattle.cckd_tables.proofs.kept.met_in_run.Goals as goal
 use Rattle.cckd_tables.proofs.kept.met_in_run.Goals.{then-at-eq0, else-at-eq0, then-at-run, else-at-run}
 

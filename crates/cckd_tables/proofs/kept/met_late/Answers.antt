@@ -1,6 +1,6 @@
 use Rattle.std.proofs.Common.{◌∙◌, ap, inl, inr}
 use Rattle.cckd_base.specs.Survey.{lower}
-use Rattle.cckd_tables.proofs.KeptLemmas.{late_met, LastOf, FirstOf}
+use Rattle.cckd_tables.proofs.NearLemmas.{late_met, LastOf, FirstOf}
 use Rattle.cckd_tables.proofs.kept.met_late.Goals as goal
 use Rattle.cckd_tables.proofs.kept.met_late.Goals.{in-Some, in-None, in-Some-next, in-None-next}
 

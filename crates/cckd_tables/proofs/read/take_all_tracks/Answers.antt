@@ -4,7 +4,7 @@ use Rattle.cckd_base.specs.declared.space.Extent.{Extent}
 use Rattle.cckd_base.specs.declared.space.Owner.TheVariants.{Nobody}
 use Rattle.cckd_base.specs.Survey.{entry_items_in}
 use Rattle.cckd_tables.specs.Inside.{Takes}
-use Rattle.cckd_tables.proofs.TakeLemmas.{takes_same, takes_then, some_then, row_more}
+use Rattle.cckd_tables.proofs.TakeLemmas.{takes_same, takes_then, some_then, row_more, ended_early, went_to_the_end}
 use Rattle.cckd_tables.proofs.read.take_all_tracks.Goals as goal
 
 pub loop-table-preserved : goal.loop-table-preserved
@@ -26,3 +26,13 @@ loop-table-preserved g c =
       kept = λ told. done.reads.kept told ∙ now.kept told;
       counts = done.reads.counts ∙ now.counts;
     }
+
+pub returns-then-is_done-clause-takes : goal.returns-then-is_done-clause-takes
+returns-then-is_done-clause-takes g c = λ told sure.
+    ended_early c.args.len c.args.until (entry_items_in c.args.l.now (file_of (g.T.Shows.world c.args.stage.now) c.args.slot)) c.args.tables.now c.loop-table.table-index
+    c.args.survey.now c.loop-table.survey (c.loop-table.invariant.takes told sure) (c.is_done.ensures.0 c.if-is_done.true)
+
+pub returns-clause-takes : goal.returns-clause-takes
+returns-clause-takes g c = λ told sure.
+    went_to_the_end c.args.len c.args.until (entry_items_in c.args.l.now (file_of (g.T.Shows.world c.args.stage.now) c.args.slot)) c.args.tables.now c.loop-table.table-index
+    c.args.survey.now c.loop-table.survey (c.loop-table.invariant.takes told sure) c.loop-table-test.false
