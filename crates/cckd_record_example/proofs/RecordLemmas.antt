@@ -1,22 +1,11 @@
 -- How a file reads after the writes of an update, whole or torn.
-use Rattle.std.proofs.Common.{◌≡◌, ◌⊎◌, ℕ, ◌+◌, ◌<◌, ◌≤◌, List, length, take, drop, get_or, sym, ◌∙◌, ap, subst, inl, inr, arith}
+use Rattle.std.proofs.Common.{◌≡◌, ◌⊎◌, ℕ, ◌+◌, ◌≤◌, List, length, take, drop, sym, ◌∙◌, ap, subst, inl, inr, arith}
 use Rattle.std.specs.Int.{w64, to_le_bytes}
-use Rattle.std.proofs.lemmas.List.{ext_get_or, get_or-take, get_or-drop, length-take, length-drop}
-use Rattle.cckd_shelf.specs.Files.{bytes_at, overlaid}
+use Rattle.cckd_shelf.specs.Files.{overlaid}
 use Rattle.cckd_shelf.specs.Outcomes.{WriteLeaves}
 use Rattle.cckd_shelf.proofs.OutcomeLemmas.{write_made, length_overlaid, overlaid_within_range}
+use Rattle.cckd_shelf.proofs.SectorLemmas.{part_same}
 use Rattle.cckd_record_example.specs.Records.{Has, Shows, ShowsBeside, ShowsEither, AreApart}
-
--- a part of a file that a write doesn't touch
-same_part : (was file : List ℕ) (place n : ℕ) → place + n ≤ length was → length was ≤ length file
-    → ((i : ℕ) → place ≤ i → i < place + n → get_or file i 0 ≡ get_or was i 0) → bytes_at file place n ≡ bytes_at was place n
-same_part was file place n within longer same =
-    let size : length (bytes_at file place n) ≡ n = omega (arith, length-take n (drop place file), length-drop place file) in
-    let old_size : length (bytes_at was place n) ≡ n = omega (arith, length-take n (drop place was), length-drop place was) in
-    ext_get_or 0 (bytes_at file place n) (bytes_at was place n) (size ∙ sym old_size)
-    (λ i low. let below : i < n = omega (arith, size) in
-    get_or-take n (drop place file) i 0 below ∙ (get_or-drop place file i 0
-    ∙ (same (place + i) (omega arith) (omega arith) ∙ sym (get_or-take n (drop place was) i 0 below ∙ get_or-drop place was i 0))))
 
 -- the record at p stays where another range is written
 has_stays : (p place : ℕ) (old bytes was file : List ℕ) → Has p old was → WriteLeaves place bytes was file
@@ -24,18 +13,18 @@ has_stays : (p place : ℕ) (old bytes was file : List ℕ) → Has p old was �
 has_stays p place old bytes was file h leaves (inl apart) = record {
   behind = h.behind;
   within = omega (arith, h.within, leaves.no_shorter);
-  bytes = same_part was file p 600 h.within leaves.no_shorter (λ i low high. leaves.before i (omega (arith, h.within)) (omega arith)) ∙ h.bytes;
+  bytes = part_same was file p 600 h.within leaves.no_shorter (λ i low high. leaves.before i (omega (arith, h.within)) (omega arith)) ∙ h.bytes;
 }
 has_stays p place old bytes was file h leaves (inr apart) = record {
   behind = h.behind;
   within = omega (arith, h.within, leaves.no_shorter);
-  bytes = same_part was file p 600 h.within leaves.no_shorter (λ i low high. leaves.behind i (omega (arith, h.within)) (omega arith)) ∙ h.bytes;
+  bytes = part_same was file p 600 h.within leaves.no_shorter (λ i low high. leaves.behind i (omega (arith, h.within)) (omega arith)) ∙ h.bytes;
 }
 
 -- the entry stays where something behind it is written
 entry_stays : (place : ℕ) (bytes was file : List ℕ) → 8 ≤ length was → 8 ≤ place → WriteLeaves place bytes was file → take 8 file ≡ take 8 was
 entry_stays place bytes was file long behind leaves =
-    same_part was file 0 8 long leaves.no_shorter (λ i low high. leaves.before i (omega arith) (omega arith))
+    part_same was file 0 8 long leaves.no_shorter (λ i low high. leaves.before i (omega arith) (omega arith))
 
 -- a record beside the one that is shown, whole or torn
 pub shows_stays : (p place : ℕ) (old value was file : List ℕ) → length value ≡ 600 → 8 ≤ place → AreApart p place

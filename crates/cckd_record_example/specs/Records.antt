@@ -1,9 +1,11 @@
 -- A file whose first eight bytes point to one record.
-use Rattle.std.specs.Prelude.{ℕ, ◌≡◌, ◌⊎◌, ◌+◌, ◌≤◌, List, length, take}
+use Rattle.std.specs.Prelude.{ℕ, ◌≡◌, ◌⊎◌, ◌+◌, ◌≤◌, List, length, take, Some}
 use Rattle.std.specs.Int.{w64, to_le_bytes}
-use Rattle.cckd_shelf.specs.Faults.{Rose}
+use Rattle.cckd_shelf.specs.declared.fault.Kind.TheVariants.{Writes, Syncs}
+use Rattle.cckd_shelf.specs.Events.{name_of}
+use Rattle.cckd_shelf.specs.Faults.{Raises}
 use Rattle.cckd_shelf.specs.Files.{bytes_at}
-use Rattle.cckd_shelf.specs.declared.fault.Faults.{Faults}
+use Rattle.cckd_shelf.specs.Seen.{Seen, Tells}
 
 -- a record lies behind the entry, in the file, and has this value
 pub record Has (place : ℕ) (value file : List ℕ) : Type 0 where
@@ -25,14 +27,22 @@ pub record ShowsBeside (old_place : ℕ) (old : List ℕ) (place : ℕ) (value f
 abbrev pub ShowsEither : ℕ → List ℕ → ℕ → List ℕ → List ℕ → Type 0
 ShowsEither old_place old place value file = Shows old_place old file ⊎ Shows place value file
 
--- it reads as one of three values
-abbrev pub ShowsAny : ℕ → List ℕ → ℕ → List ℕ → ℕ → List ℕ → List ℕ → Type 0
-ShowsAny p old a first b second file = Shows p old file ⊎ (Shows a first file ⊎ Shows b second file)
-
--- the count of failed writes rose, or that of failed syncs
-abbrev pub HasCause : Faults → Faults → Type 0
-HasCause before after = Rose before.writes after.writes ⊎ Rose before.syncs after.syncs
-
 -- two records don't share a byte
 abbrev pub AreApart : ℕ → ℕ → Type 0
 AreApart a b = (a + 600 ≤ b) ⊎ (b + 600 ≤ a)
+
+-- one write failed, or one sync, and nothing else did
+abbrev pub HasCause : Seen → Seen → Type 0
+HasCause old new = Raises Writes old.faults new.faults ⊎ Raises Syncs old.faults new.faults
+
+-- no call failed
+abbrev pub KeepsCounts : Seen → Seen → Type 0
+KeepsCounts old new = new.faults ≡ old.faults
+
+-- a slot has this name
+abbrev pub HasName : ℕ → List ℕ → Seen → Type 0
+HasName slot name s = Tells s → name_of s.world.events slot ≡ Some name
+
+-- the file begins with these bytes
+abbrev pub BeginsWith : List ℕ → List ℕ → Type 0
+BeginsWith bytes file = take (length bytes) file ≡ bytes

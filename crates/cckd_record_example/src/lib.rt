@@ -2,8 +2,10 @@
 //! to it.
 #![tactic(auto)]
 
+mod storing;
 #[cfg(test)]
 mod tests;
 mod updating;
 
-pub use updating::{update, update_twice};
+pub use storing::store;
+pub use updating::{Version, update, update_all};

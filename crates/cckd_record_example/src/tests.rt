@@ -1,5 +1,6 @@
 use crate::update;
-use cckd_shelf::{Bytes, FileIn, MemoryStage, Op, Shelf, Slot, image_of};
+use cckd_memory::{Bytes, FileIn, MemoryStage, Op, image_of};
+use cckd_shelf::{Shelf, Slot};
 use std::alloc::Global;
 use std::test::Fail;
 

@@ -1,10 +1,21 @@
+//! Updates of one record after another.
 ghost use Rattle.std.specs.Prelude.{◌≡◌, ℕ, ◌+◌, ◌^◌, ◌<◌, ◌≤◌, List, length, OnOk, OnErr};
 ghost use Rattle.std.specs.Int.{w64, to_le_bytes};
-ghost use Rattle.cckd_shelf.specs.Faults.{NoneFell};
-ghost use Rattle.cckd_shelf.specs.Outcomes.{AtEach, EachOutcome};
-ghost use Rattle.cckd_record_example.specs.Records.{Shows, ShowsBeside, ShowsEither, ShowsAny, AreApart, HasCause};
+ghost use Rattle.std.specs.List.{All};
+ghost use Rattle.cckd_shelf.specs.Seen.{seen};
+ghost use Rattle.cckd_shelf.specs.Frame.{OnlyIn};
+ghost use Rattle.cckd_shelf.specs.Stops.{StopLeaves, StopsLeave};
+ghost use Rattle.cckd_record_example.specs.Records.{Shows, ShowsBeside, ShowsEither, AreApart, HasCause, KeepsCounts};
+ghost use Rattle.cckd_record_example.specs.Versions.{IsFit, AreInTurn, ShowsOne, last_place, last_value};
 
 use cckd_shelf::{Failed, Shelf, Slot};
+
+/// A value of the record, 600 bytes, and the place where it goes.
+#[derive(Debug, Drop)]
+pub struct Version {
+    pub place: u64,
+    pub value: Vec<u8>,
+}
 
 /// Makes the file read as this value, which is put at a free place. A stop at any operation leaves a file
 /// that reads as the old value or as this one.
@@ -12,51 +23,42 @@ pub fn update<S: Shelf>(shelf: &mut S, slot: Slot, place: u64, value: &[u8]) -> 
     requires size { length value.now ≡ 600 }
     requires behind { 8 ≤ place }
     requires room { place + 600 < 2 ^ 63 }
-    ensures stopped { (p : ℕ) (old : List ℕ) → S.tells → AreApart p place
-        → EachOutcome slot (Shows p old) (S.world shelf.old).events
-        → AtEach (S.world shelf.old).events (S.world shelf.new).events (EachOutcome slot (ShowsEither p old place value.now)) }
-    ensures done { (p : ℕ) (old : List ℕ) → S.tells → AreApart p place
-        → EachOutcome slot (Shows p old) (S.world shelf.old).events
-        → OnOk result (EachOutcome slot (Shows place value.now) (S.world shelf.new).events) }
+    ensures stopped { (p : ℕ) (old : List ℕ) → AreApart p place
+        → StopLeaves slot (Shows p old) (seen S.Shows shelf.old)
+        → StopsLeave slot (ShowsEither p old place value.now) (seen S.Shows shelf.old) (seen S.Shows shelf.new) }
+    ensures done { (p : ℕ) (old : List ℕ) → AreApart p place
+        → StopLeaves slot (Shows p old) (seen S.Shows shelf.old)
+        → OnOk result (StopLeaves slot (Shows place value.now) (seen S.Shows shelf.new)) }
+    ensures others { OnlyIn slot (seen S.Shows shelf.old) (seen S.Shows shelf.new) }
 
     // It fails only where a write or a sync did.
-    ensures cause { OnErr result (HasCause (S.faults shelf.old) (S.faults shelf.new)) }
-    ensures fell { NoneFell (S.faults shelf.old) (S.faults shelf.new) }
+    ensures cause { OnErr result (HasCause (seen S.Shows shelf.old) (seen S.Shows shelf.new)) }
+    ensures still { OnOk result (KeepsCounts (seen S.Shows shelf.old) (seen S.Shows shelf.new)) }
 {
     put_record(shelf, slot, place, value)?;
     point_to(shelf, slot, place)
 }
 
-/// Two updates in a row: a stop leaves the old value, the first or the second.
-pub fn update_twice<S: Shelf>(
-    shelf: &mut S,
-    slot: Slot,
-    first_place: u64,
-    first: &[u8],
-    second_place: u64,
-    second: &[u8],
-) -> Result<(), Failed>
-    requires first_size { length first.now ≡ 600 }
-    requires first_behind { 8 ≤ first_place }
-    requires first_room { first_place + 600 < 2 ^ 63 }
-    requires second_size { length second.now ≡ 600 }
-    requires second_behind { 8 ≤ second_place }
-    requires second_room { second_place + 600 < 2 ^ 63 }
-    requires apart { AreApart first_place second_place }
-    ensures stopped { (p : ℕ) (old : List ℕ) → S.tells → AreApart p first_place
-        → EachOutcome slot (Shows p old) (S.world shelf.old).events
-        → AtEach (S.world shelf.old).events (S.world shelf.new).events
-        (EachOutcome slot (ShowsAny p old first_place first.now second_place second.now)) }
-    ensures done { (p : ℕ) (old : List ℕ) → S.tells → AreApart p first_place
-        → EachOutcome slot (Shows p old) (S.world shelf.old).events
-        → OnOk result (EachOutcome slot (Shows second_place second.now) (S.world shelf.new).events) }
+/// Versions in a row, each at a place apart from the one before. A stop at any operation leaves the value that
+/// was there or one of theirs, and at the end it leaves the last one.
+pub fn update_all<S: Shelf>(shelf: &mut S, slot: Slot, versions: &[Version]) -> Result<(), Failed>
+    requires { All IsFit versions.now }
+    ensures stopped { (p : ℕ) (old : List ℕ) → AreInTurn p versions.now
+        → StopLeaves slot (Shows p old) (seen S.Shows shelf.old)
+        → StopsLeave slot (ShowsOne p old versions.now) (seen S.Shows shelf.old) (seen S.Shows shelf.new) }
+    ensures done { (p : ℕ) (old : List ℕ) → AreInTurn p versions.now
+        → StopLeaves slot (Shows p old) (seen S.Shows shelf.old)
+        → OnOk result (StopLeaves slot (Shows (last_place p versions.now) (last_value old versions.now)) (seen S.Shows shelf.new)) }
+    ensures others { OnlyIn slot (seen S.Shows shelf.old) (seen S.Shows shelf.new) }
 
     // It fails only where a write or a sync did.
-    ensures cause { OnErr result (HasCause (S.faults shelf.old) (S.faults shelf.new)) }
-    ensures fell { NoneFell (S.faults shelf.old) (S.faults shelf.new) }
+    ensures cause { OnErr result (HasCause (seen S.Shows shelf.old) (seen S.Shows shelf.new)) }
+    ensures still { OnOk result (KeepsCounts (seen S.Shows shelf.old) (seen S.Shows shelf.new)) }
 {
-    update(shelf, slot, first_place, first)?;
-    update(shelf, slot, second_place, second)
+    for next in versions {
+        update(shelf, slot, next.place, next.value.as_slice())?;
+    }
+    Ok(())
 }
 
 /// Puts the record, and makes it stay before anything points to it.
@@ -64,50 +66,47 @@ fn put_record<S: Shelf>(shelf: &mut S, slot: Slot, place: u64, value: &[u8]) -> 
     requires size { length value.now ≡ 600 }
     requires behind { 8 ≤ place }
     requires room { place + 600 < 2 ^ 63 }
-    ensures stopped { (p : ℕ) (old : List ℕ) → S.tells → AreApart p place
-        → EachOutcome slot (Shows p old) (S.world shelf.old).events
-        → AtEach (S.world shelf.old).events (S.world shelf.new).events (EachOutcome slot (Shows p old)) }
-    ensures placed { (p : ℕ) (old : List ℕ) → S.tells → AreApart p place
-        → EachOutcome slot (Shows p old) (S.world shelf.old).events
-        → OnOk result (EachOutcome slot (ShowsBeside p old place value.now) (S.world shelf.new).events) }
-    ensures cause { OnErr result (HasCause (S.faults shelf.old) (S.faults shelf.new)) }
-    ensures fell { NoneFell (S.faults shelf.old) (S.faults shelf.new) }
+    ensures stopped { (p : ℕ) (old : List ℕ) → AreApart p place
+        → StopLeaves slot (Shows p old) (seen S.Shows shelf.old)
+        → StopsLeave slot (Shows p old) (seen S.Shows shelf.old) (seen S.Shows shelf.new) }
+    ensures placed { (p : ℕ) (old : List ℕ) → AreApart p place
+        → StopLeaves slot (Shows p old) (seen S.Shows shelf.old)
+        → OnOk result (StopLeaves slot (ShowsBeside p old place value.now) (seen S.Shows shelf.new)) }
+    ensures others { OnlyIn slot (seen S.Shows shelf.old) (seen S.Shows shelf.new) }
+    ensures cause { OnErr result (HasCause (seen S.Shows shelf.old) (seen S.Shows shelf.new)) }
+    ensures still { OnOk result (KeepsCounts (seen S.Shows shelf.old) (seen S.Shows shelf.new)) }
 {
-    let Ok(()) = shelf.write(slot, place, value) else {
-        return Err(Failed);
-    };
-    let synced = shelf.sync(slot);
-    synced
+    shelf.write(slot, place, value)?;
+    shelf.sync(slot)
 }
 
 /// Makes the entry point to the record that lies there.
 fn point_to<S: Shelf>(shelf: &mut S, slot: Slot, place: u64) -> Result<(), Failed>
-    ensures stopped { (p : ℕ) (old value : List ℕ) → S.tells
-        → EachOutcome slot (ShowsBeside p old place value) (S.world shelf.old).events
-        → AtEach (S.world shelf.old).events (S.world shelf.new).events (EachOutcome slot (ShowsEither p old place value)) }
-    ensures done { (p : ℕ) (old value : List ℕ) → S.tells
-        → EachOutcome slot (ShowsBeside p old place value) (S.world shelf.old).events
-        → OnOk result (EachOutcome slot (Shows place value) (S.world shelf.new).events) }
-    ensures cause { OnErr result (HasCause (S.faults shelf.old) (S.faults shelf.new)) }
-    ensures fell { NoneFell (S.faults shelf.old) (S.faults shelf.new) }
+    ensures stopped { (p : ℕ) (old value : List ℕ)
+        → StopLeaves slot (ShowsBeside p old place value) (seen S.Shows shelf.old)
+        → StopsLeave slot (ShowsEither p old place value) (seen S.Shows shelf.old) (seen S.Shows shelf.new) }
+    ensures done { (p : ℕ) (old value : List ℕ)
+        → StopLeaves slot (ShowsBeside p old place value) (seen S.Shows shelf.old)
+        → OnOk result (StopLeaves slot (Shows place value) (seen S.Shows shelf.new)) }
+    ensures others { OnlyIn slot (seen S.Shows shelf.old) (seen S.Shows shelf.new) }
+    ensures cause { OnErr result (HasCause (seen S.Shows shelf.old) (seen S.Shows shelf.new)) }
+    ensures still { OnOk result (KeepsCounts (seen S.Shows shelf.old) (seen S.Shows shelf.new)) }
 {
     write_entry(shelf, slot, place, &place.to_le_bytes())
 }
 
 fn write_entry<S: Shelf>(shelf: &mut S, slot: Slot, place: u64, entry: &[u8]) -> Result<(), Failed>
     requires { entry.now ≡ to_le_bytes w64 place }
-    ensures stopped { (p : ℕ) (old value : List ℕ) → S.tells
-        → EachOutcome slot (ShowsBeside p old place value) (S.world shelf.old).events
-        → AtEach (S.world shelf.old).events (S.world shelf.new).events (EachOutcome slot (ShowsEither p old place value)) }
-    ensures done { (p : ℕ) (old value : List ℕ) → S.tells
-        → EachOutcome slot (ShowsBeside p old place value) (S.world shelf.old).events
-        → OnOk result (EachOutcome slot (Shows place value) (S.world shelf.new).events) }
-    ensures cause { OnErr result (HasCause (S.faults shelf.old) (S.faults shelf.new)) }
-    ensures fell { NoneFell (S.faults shelf.old) (S.faults shelf.new) }
+    ensures stopped { (p : ℕ) (old value : List ℕ)
+        → StopLeaves slot (ShowsBeside p old place value) (seen S.Shows shelf.old)
+        → StopsLeave slot (ShowsEither p old place value) (seen S.Shows shelf.old) (seen S.Shows shelf.new) }
+    ensures done { (p : ℕ) (old value : List ℕ)
+        → StopLeaves slot (ShowsBeside p old place value) (seen S.Shows shelf.old)
+        → OnOk result (StopLeaves slot (Shows place value) (seen S.Shows shelf.new)) }
+    ensures others { OnlyIn slot (seen S.Shows shelf.old) (seen S.Shows shelf.new) }
+    ensures cause { OnErr result (HasCause (seen S.Shows shelf.old) (seen S.Shows shelf.new)) }
+    ensures still { OnOk result (KeepsCounts (seen S.Shows shelf.old) (seen S.Shows shelf.new)) }
 {
-    let Ok(()) = shelf.write(slot, 0, entry) else {
-        return Err(Failed);
-    };
-    let synced = shelf.sync(slot);
-    synced
+    shelf.write(slot, 0, entry)?;
+    shelf.sync(slot)
 }

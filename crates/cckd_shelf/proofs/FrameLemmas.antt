@@ -1,9 +1,9 @@
 -- What other slots keep: one event more of each kind, calls at Ok and at a failure at once, and several in a row.
-use Rattle.std.proofs.Common.{◌≡◌, ◌⊎◌, ℕ, cond, List, ◌∷◌, take, Result, Ok, Err, OnOk, OnErr, refl, sym, ◌∙◌, ap, subst, inl, inr}
+use Rattle.std.proofs.Common.{◌≡◌, ℕ, cond, List, ◌∷◌, take, Result, Ok, Err, OnOk, OnErr, refl, sym, ◌∙◌, subst, inl, inr}
 use Rattle.std.proofs.lemmas.Bool.{cond-false}
 use Rattle.cckd_shelf.specs.declared.fault.Failed.{Failed}
 use Rattle.cckd_shelf.specs.Files.{overlaid}
-use Rattle.cckd_shelf.specs.Events.{Event, Written, Torn, Cut, HalfCut, Synced, Put, Bound, is_name, name_of, goes_by, is_about, file_now}
+use Rattle.cckd_shelf.specs.Events.{Event, Written, Torn, Cut, HalfCut, Synced, Put, goes_by, is_about, file_now}
 use Rattle.cckd_shelf.specs.World.{World, after_write, after_torn, after_cut, after_half_cut, after_sync}
 use Rattle.cckd_shelf.specs.Seen.{Seen, Tells, Stays, Makes, MayMake}
 use Rattle.cckd_shelf.specs.Outcomes.{IsOutcome, EachOutcome, OthersStill, AtEach}

@@ -1,12 +1,12 @@
 -- Laws of "at each operation": stretches of events, and calls of a shelf at Ok and at a failure at once.
-use Rattle.std.proofs.Common.{◌≡◌, ◌⊎◌, ℕ, List, [], ◌∷◌, ◌++◌, take, Result, Ok, Err, OnOk, OnErr, IfOk, refl, sym, ◌∙◌, ap, subst, inl, inr}
+use Rattle.std.proofs.Common.{◌≡◌, ℕ, List, [], ◌∷◌, ◌++◌, take, Result, Ok, Err, OnOk, OnErr, IfOk, refl, sym, ◌∙◌, ap, subst, inl, inr}
 use Rattle.std.proofs.lemmas.List.{append_assoc, append_cancel_right}
 use Rattle.cckd_shelf.specs.declared.fault.Failed.{Failed}
 use Rattle.cckd_shelf.specs.Files.{overlaid}
 use Rattle.cckd_shelf.specs.Events.{Event, Written, Torn, Cut, HalfCut, Synced, Put}
 use Rattle.cckd_shelf.specs.World.{World, IsSure, file_of, after_write, after_torn, after_cut, after_half_cut, after_sync, after_put}
 use Rattle.cckd_shelf.specs.Seen.{Seen, Tells, Stays, Makes, MayMake}
-use Rattle.cckd_shelf.specs.Outcomes.{WriteLeaves, CutLeaves, EachHeld, EachOutcome, OthersStill, Along, AtEach}
+use Rattle.cckd_shelf.specs.Outcomes.{WriteLeaves, EachHeld, EachOutcome, Along, AtEach}
 use Rattle.cckd_shelf.proofs.OutcomeLemmas.{write_step, torn_step, cut_step, half_cut_step, sync_step, sync_settles, sync_leaves_now, held_write}
 
 -- nothing happened
@@ -145,21 +145,21 @@ held_wrote P Q slot position bytes old new e told each step =
     subst (λ (x : World). EachHeld slot Q x.events) (sym (e told)) (held_write P Q slot position bytes old.world.events each step)
 
 -- A sync that was Ok leaves exactly what may be held.
-pub sync_done : (P : List ℕ → Type 0) (slot : ℕ) (old new : Seen) (result : Result (Unit {0}) Failed) → OnOk result (Makes (after_sync slot) old new) → Tells old
-    → EachHeld slot P old.world.events → OnOk result (EachOutcome slot P new.world.events)
-sync_done P slot old new (Ok u) e told each = subst (λ (x : World). EachOutcome slot P x.events) (sym (e told)) (sync_settles P slot old.world.events each)
-sync_done P slot old new (Err failed) e told each = tt
+pub sync_done : (P : List ℕ → Type 0) (slot : ℕ) (old new : Seen) (result : Result (Unit {0}) Failed) → OnOk result (Makes (after_sync slot) old new)
+    → (Tells old → EachHeld slot P old.world.events) → OnOk result (Tells old → EachOutcome slot P new.world.events)
+sync_done P slot old new (Ok u) e each = λ told. subst (λ (x : World). EachOutcome slot P x.events) (sym (e told)) (sync_settles P slot old.world.events (each told))
+sync_done P slot old new (Err failed) e each = tt
 
 -- Where no operation failed half way before it, that is the file now,
-pub sync_leaves : (P : List ℕ → Type 0) (slot : ℕ) (old new : Seen) (result : Result (Unit {0}) Failed) → OnOk result (Makes (after_sync slot) old new) → Tells old
-    → IsSure old.world → P (file_of old.world slot) → OnOk result (EachOutcome slot P new.world.events)
-sync_leaves P slot old new (Ok u) e told sure here =
-    subst (λ (x : World). EachOutcome slot P x.events) (sym (e told)) (λ file outcome. subst P (sym (sync_leaves_now slot old.world.events sure file outcome)) here)
-sync_leaves P slot old new (Err f) e told sure here = tt
+pub sync_leaves : (P : List ℕ → Type 0) (slot : ℕ) (old new : Seen) (result : Result (Unit {0}) Failed) → OnOk result (Makes (after_sync slot) old new)
+    → (Tells old → IsSure old.world × P (file_of old.world slot)) → OnOk result (Tells old → EachOutcome slot P new.world.events)
+sync_leaves P slot old new (Ok u) e here = λ told.
+    subst (λ (x : World). EachOutcome slot P x.events) (sym (e told)) (λ file outcome. subst P (sym (sync_leaves_now slot old.world.events (here told).0 file outcome)) (here told).1)
+sync_leaves P slot old new (Err f) e here = tt
 
 -- the same, said of the file behind the sync
-pub sync_alone : (slot : ℕ) (old new : Seen) (result : Result (Unit {0}) Failed) → OnOk result (Makes (after_sync slot) old new) → Tells old
-    → IsSure old.world → OnOk result (EachOutcome slot (λ file. file ≡ file_of new.world slot) new.world.events)
-sync_alone slot old new (Ok u) e told sure =
-    subst (λ (x : World). EachOutcome slot (λ file. file ≡ file_of x slot) x.events) (sym (e told)) (λ file outcome. sync_leaves_now slot old.world.events sure file outcome)
-sync_alone slot old new (Err f) e told sure = tt
+pub sync_alone : (slot : ℕ) (old new : Seen) (result : Result (Unit {0}) Failed) → OnOk result (Makes (after_sync slot) old new)
+    → (Tells old → IsSure old.world) → OnOk result (Tells old → EachOutcome slot (λ file. file ≡ file_of new.world slot) new.world.events)
+sync_alone slot old new (Ok u) e sure = λ told.
+    subst (λ (x : World). EachOutcome slot (λ file. file ≡ file_of x slot) x.events) (sym (e told)) (λ file outcome. sync_leaves_now slot old.world.events (sure told) file outcome)
+sync_alone slot old new (Err f) e sure = tt

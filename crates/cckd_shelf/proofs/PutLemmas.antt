@@ -1,12 +1,11 @@
 -- How the output grows, and what that tells at each moment.
 use Rattle.std.proofs.Common.{◌≡◌, ℕ, ◌+◌, ◌-◌, ◌≤◌, List, [], ◌∷◌, ◌++◌, length, take, drop, refl, sym, ◌∙◌, ap, subst, arith, append_assoc, append-nil, length-append, length-drop}
 use Rattle.std.proofs.Math.Seq.{take-add, take-length}
-use Rattle.cckd_shelf.specs.declared.fault.Faults.{Faults}
 use Rattle.cckd_shelf.specs.Events.{Event, Written, Torn, Cut, HalfCut, Synced, Put, Bound, name_of, file_now, is_sure, output_of}
 use Rattle.cckd_shelf.specs.World.{World, after_put}
 use Rattle.cckd_shelf.specs.Seen.{Seen, Tells, Makes}
 use Rattle.cckd_shelf.specs.Outcomes.{IsCrashImage, IsOutcome, Along, AtEach}
-use Rattle.cckd_shelf.specs.Frame.{puts, joined, OnlyPuts, PutsFront, PutsAll, PutsSome}
+use Rattle.cckd_shelf.specs.Frame.{puts, joined, OnlyPuts, PutsAll, PutsSome}
 use Rattle.cckd_shelf.proofs.WorldLemmas.{output_grows}
 
 none_of_length : {A : Type 0} (xs : List A) → length xs ≡ 0 → xs ≡ []

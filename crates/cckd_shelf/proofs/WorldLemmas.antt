@@ -1,15 +1,15 @@
 -- How the words on a world change by each call, for callers.
-use Rattle.std.proofs.Common.{◌≡◌, ◌⊎◌, ℕ, ◌+◌, ◌≤◌, ◌<◌, ◌==◌, Bool, true, false, cond, List, [], ◌∷◌, ◌++◌, length, take, drop, get_or, Option, Some, None, Result, Ok, Err, OnOk, unwrap_or, refl, sym, ◌∙◌, ap, subst, inl, inr, arith, append_assoc}
+use Rattle.std.proofs.Common.{◌≡◌, ◌⊎◌, ℕ, ◌==◌, Bool, true, false, cond, List, [], ◌∷◌, ◌++◌, take, Option, Some, None, Result, Ok, Err, OnOk, unwrap_or, refl, sym, ◌∙◌, ap, subst, inl, inr, append_assoc}
 use Rattle.std.specs.Prelude.{◌&&◌, not, MatchOption}
 use Rattle.std.specs.Str.{bytes_eq}
 use Rattle.std.proofs.lemmas.Bool.{cases_Bool, cond-true, cond-false, eq-eqb, ne_eqb, both_ways, false_from_ne_true}
 use Rattle.std.proofs.lemmas.List.{append-nil, take-append-drop}
 use Rattle.std.proofs.lemmas.Slice.Eq.{bytes_eq-Decides}
-use Rattle.cckd_shelf.specs.Events.{Event, Written, Torn, Cut, HalfCut, Synced, Put, Bound, Name, Named, Nameless, is_name, name_of, was_bound, named_by, goes_by, is_about, begun, held_now, file_now, is_sure, ops_of, output_of}
+use Rattle.cckd_shelf.specs.Events.{Event, Written, Torn, Cut, HalfCut, Synced, Put, Bound, Name, Named, is_name, name_of, was_bound, named_by, goes_by, is_about, begun, held_now, file_now, is_sure, ops_of, output_of}
 use Rattle.cckd_shelf.specs.Files.{overlaid}
 use Rattle.cckd_shelf.specs.World.{World, IsSure, IsTied, file_of, held_by, after_bind, after_write, after_cut, after_take}
 use Rattle.cckd_shelf.specs.Outcomes.{MayBeLeft, IsOutcome, EachOutcome}
-use Rattle.cckd_shelf.proofs.NameLemmas.{same_text, texts_differ, text_is, about_own, about_other, name_was_bound}
+use Rattle.cckd_shelf.proofs.NameLemmas.{same_text, texts_differ, text_is, about_own, name_was_bound}
 
 is_own : (o : Option (List ℕ)) (name : List ℕ) → is_name o name ≡ true → o ≡ Some name
 is_own None name e = cc

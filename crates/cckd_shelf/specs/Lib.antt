@@ -4,4 +4,5 @@ pub mod Files
 pub mod Frame
 pub mod Outcomes
 pub mod Seen
+pub mod Stops
 pub mod World
