@@ -1,9 +1,9 @@
 -- What callers know of the entries once they have written to the bytes that `bytes_mut` lent, and once a mark or a length is set.
-use Rattle.std.proofs.Common.{◌≡◌, ◌≢◌, inl, inr, ℕ, zero, suc, ◌<◌, ◌≤◌, List, [], ◌∷◌, length, map, Option, None, Some, IsNone, All, refl, sym, ap, ◌∙◌, subst, arith}
+use Rattle.std.proofs.Common.{◌≡◌, ◌≢◌, inl, inr, ℕ, zero, suc, ◌<◌, ◌≤◌, List, [], ◌∷◌, length, map, Option, None, Some, IsNone, All, true≢false, false, refl, sym, ap, ◌∙◌, subst, arith}
 use Rattle.std.proofs.lemmas.Bool.Decides.{eqb_tells}
-use Rattle.std.specs.List.{IsDistinct, length_refill}
+use Rattle.std.specs.List.{IsDistinct, AllByRecursion, length_refill}
 use Rattle.std.specs.Bool.{nat_eq}
-use Rattle.cckd_frames.specs.Frames.{Entry, Kept, IsKept, IsUsed, keys, frames, entry_in, entry_of, without, promoted, changed, resized, refilled, with_entries, with_mark, with_len, with_writes}
+use Rattle.cckd_frames.specs.Frames.{Entry, Kept, IsKept, IsUsed, keys, frames, entry_in, entry_of, without, promoted, blank, holding, changed, resized, refilled, with_entries, with_mark, with_len, with_body, with_writes}
 
 -- what a change keeps of each entry, it keeps of the list
 pub changed_keeps : {X : Type 0} (part : Entry → X) (frame : ℕ) (change : Entry → Entry) → ((e : Entry) → part (change e) ≡ part e)
@@ -160,3 +160,21 @@ promoted_keeps key other es = by_entry (entry_of key es) refl where
         | inl t ↦ rw t.0 (let same : key ≡ other = sym mine ∙ t.1 in sym (subst (λ k. entry_of k es ≡ Some e) same is))
         | inr t ↦ rw t.0 (without_keeps key other (λ same. t.1 (mine ∙ sym same)) es)
       ])
+
+none_equal_in : (frame : ℕ) (es : List Entry) → AllByRecursion (λ f. nat_eq frame f ≡ false) (frames es) → IsNone (entry_in frame es)
+none_equal_in frame [] apart = refl
+none_equal_in frame (e ∷ es) apart =
+    elim (eqb_tells e.frame frame) [
+      | inl t ↦ elim (eqb_tells frame e.frame) [ inl u ↦ absurd (true≢false (sym u.0 ∙ apart.0)) | inr u ↦ absurd (u.1 (sym t.1)) ]
+      | inr t ↦ rw t.0 (none_equal_in frame es apart.1)
+    ]
+
+-- other bytes in the first entry change no other entry
+pub first_copied : (k : Kept) (frame key : ℕ) (body : List ℕ) (es : List Entry) → IsKept (with_entries k (blank frame key ∷ es)) → with_body frame body (blank frame key ∷ es) ≡ holding frame key body ∷ es
+unfolding IsDistinct
+first_copied k frame key body es kept =
+    let apart = kept.one_frame_each in
+    elim (eqb_tells frame frame) [
+      | inl t ↦ rw t.0 (ap (λ (l : List Entry). holding frame key body ∷ l) (nothing_changed frame (λ e. record { frame = e.frame; key = e.key; mark = e.mark; body = body }) es (none_equal_in frame es apart.0)))
+      | inr t ↦ absurd (t.1 refl)
+    ]

@@ -6,7 +6,7 @@ use Rattle.std.proofs.Math.Nat.{mul-le-mul_right}
 use Rattle.std.proofs.lemmas.Bool.Decides.{eqb_tells}
 use Rattle.std.specs.List.{IsDistinct, AllByRecursion}
 use Rattle.std.specs.Bool.{nat_eq}
-use Rattle.cckd_frames.specs.Frames.{Entry, IsKept, keys, frames, entry_of, changed, refilled, resized, with_len, with_mark, with_writes}
+use Rattle.cckd_frames.specs.Frames.{Entry, IsKept, keys, frames, entry_of, changed, refilled, resized, with_body, with_len, with_mark, with_writes}
 use Rattle.cckd_frames.specs.Nodes.{word, with_word, flag_of, mark_word, In, IsApart, IsRing, trail}
 use Rattle.cckd_frames.specs.Store.{over, filled}
 use Rattle.cckd_frames.specs.Table.{IsTable, IsSound, IsEmptied, marked, mark_of, entry_at, entries_of}
@@ -224,6 +224,26 @@ module _ (count frame_len used : ℕ) (ws bs : List ℕ) (s : IsSound count fram
       entries_len x n O h (new ∙ (ap (λ (q : List ℕ). take kept D ++ q) zeros ∙ sym old))
       (λ y hy ne. other_body x y (p + kept) m zs h ne (omega arith) (omega arith) (s.fitting y (s.index.within y hy)))
 
+-- other bytes come in the place of those of one entry
+module _ (count frame_len used : ℕ) (ws bs : List ℕ) (s : IsSound count frame_len used ws bs) where
+  pub entries_copied : (x : ℕ) (cs : List ℕ) → x < used → length cs ≤ frame_len
+      → entries_of count frame_len used (with_word ws 6 x (length cs)) (over (x * frame_len) (length cs) bs cs) ≡ with_body x cs (entries_of count frame_len used ws bs)
+  entries_copied x cs h fits =
+      let n = length cs in let p = x * frame_len in let vs = with_word ws 6 x n in let O = over p n bs cs in
+      let hx = s.index.within x h in let size = s.table.size in let inside = frame_inside count frame_len used ws bs s x h in
+      let col : (c : ℕ) → c < 9 → c ≢ 6 → word vs c x ≡ word ws c x = λ c lt ne. word-set_column ws c 6 x x n lt (lit< tt) ne in
+      let mine : word vs 6 x ≡ n = word-set_here ws 6 x n (omega arith) in
+      let body : take n (drop p O) ≡ cs = over-here p n bs cs (omega arith) ∙ refilled-same (take n (drop p bs)) cs (sym (length-part p n bs (omega arith))) in
+      entries_changed count frame_len used ws bs s vs O (λ c k lt. len_links count frame_len used ws bs s x n c k lt) x (λ e. record { frame = e.frame; key = e.key; mark = e.mark; body = cs })
+      (λ i. record { frame = x; key = col 4 (lit< tt) (omega arith) i; mark = mark_of (col 7 (lit< tt) (omega arith) i) (col 8 (lit< tt) (omega arith) i); body = (ap (λ m. take m (drop p O)) mine ∙ body) i })
+      (λ y hy ne i. record {
+        frame = y;
+        key = len_others count frame_len used ws bs s x n 4 y (lit< tt) ne i;
+        mark = mark_of (len_others count frame_len used ws bs s x n 7 y (lit< tt) ne i) (len_others count frame_len used ws bs s x n 8 y (lit< tt) ne i);
+        body = (ap (λ m. take m (drop (y * frame_len) O)) (len_others count frame_len used ws bs s x n 6 y (lit< tt) ne)
+            ∙ other_body count frame_len used ws bs s x y p n cs h ne (omega arith) (omega arith) (s.fitting y (s.index.within y hy))) i;
+      })
+
 -- more bytes are made behind those of the frames in use
 module _ (count frame_len used : ℕ) (ws bs : List ℕ) (s : IsSound count frame_len used ws bs) (n : ℕ) where
   pub sound_filled : IsSound count frame_len used ws (filled n bs)
@@ -236,14 +256,14 @@ module _ (count frame_len used : ℕ) (ws bs : List ℕ) (s : IsSound count fram
       let f = entry_at frame_len ws bs in let g = entry_at frame_len ws (filled n bs) in let xs = s.order.0 in
       entries_are count frame_len used ws (filled n bs) sound_filled
       ∙ (map-same g f xs (λ y y_in i.
-          let h = s.order.1.only y y_in in
-          let fits = s.fitting y (s.index.within y h) in let inside = frame_inside count frame_len used ws bs s y h in
-          record {
-            frame = y;
-            key = word ws 4 y;
-            mark = mark_of (word ws 7 y) (word ws 8 y);
-            body = part_filled (y * frame_len) (word ws 6 y) n bs (omega arith) i;
-          })
+      let h = s.order.1.only y y_in in
+      let fits = s.fitting y (s.index.within y h) in let inside = frame_inside count frame_len used ws bs s y h in
+      record {
+        frame = y;
+        key = word ws 4 y;
+        mark = mark_of (word ws 7 y) (word ws 8 y);
+        body = part_filled (y * frame_len) (word ws 6 y) n bs (omega arith) i;
+      })
       ∙ sym (entries_are count frame_len used ws bs s))
 
   pub sound_reached : (cs : List ℕ) → cs ≡ filled n bs → IsSound count frame_len used ws cs

@@ -85,6 +85,14 @@ with_writes frame body = changed frame (λ e. record { frame = e.frame; key = e.
 abbrev pub with_len : ℕ → ℕ → List Entry → List Entry
 with_len frame n = changed frame (λ e. record { frame = e.frame; key = e.key; mark = e.mark; body = resized n e.body })
 
+-- an entry with these bytes and no mark
+abbrev pub holding : ℕ → ℕ → List ℕ → Entry
+holding frame key body = record { frame = frame; key = key; mark = None; body = body }
+
+-- the entries with these bytes in the one in this frame, in the place of its own
+abbrev pub with_body : ℕ → List ℕ → List Entry → List Entry
+with_body frame body = changed frame (λ e. record { frame = e.frame; key = e.key; mark = e.mark; body = body })
+
 -- what holds of each `Frames`
 pub record IsKept (k : Kept) : Type 0 where
   pub some_frames : 1 ≤ k.count

@@ -75,7 +75,7 @@ impl Drop for Frames {
 }
 
 impl Frames {
-    ghost use Rattle.cckd_frames.specs.Frames.{IsKept, with_entries, keys, entry_of, entry_in, frame_of, IsUsed, promoted, blank, with_mark, with_len, with_writes};
+    ghost use Rattle.cckd_frames.specs.Frames.{IsKept, with_entries, keys, entry_of, entry_in, frame_of, IsUsed, promoted, blank, with_mark, with_len, with_body, with_writes, holding};
     ghost use Rattle.cckd_frames.specs.LendingBody.{LendsBody};
 
     /// `count` frames of `frame_len` bytes each, none in use.
@@ -164,6 +164,33 @@ impl Frames {
         enter(&mut self.nodes, count, frame, key);
         self.used = used;
         Frame(frame)
+    }
+
+    /// The same for an entry with these bytes, which are copied into the frame as they are.
+    pub fn put(&mut self, key: u32, bytes: &[u8]) -> Frame
+        requires absent { IsNone (entry_of key self.old.entries) }
+        requires fits { length bytes.now ≤ self.old.frame_len }
+        ensures put { self.new ≡ with_entries self.old (holding result.0 key bytes.now ∷ take (self.old.count - 1) self.old.entries) }
+        ensures used { IsUsed result.0 self.new.entries }
+        ensures kept { IsKept self.new }
+    {
+        let frame = self.take_last(key);
+        self.copy(frame, bytes);
+        frame
+    }
+
+    // These bytes come in the place of the entry's own.
+    fn copy(&mut self, f: Frame, bytes: &[u8])
+        requires used { IsUsed f.0 self.old.entries }
+        requires fits { length bytes.now ≤ self.old.frame_len }
+        ensures copied { self.new ≡ with_entries self.old (with_body f.0 bytes.now self.old.entries) }
+        ensures used { IsUsed f.0 self.new.entries }
+        ensures kept { IsKept self.new }
+    {
+        let count = self.count;
+        let at = f.0 as usize * self.frame_len as usize;
+        self.bytes.part_mut(at, bytes.len()).copy_from_slice(bytes);
+        put_len(&mut self.nodes, count, f.0, bytes.len() as u32);
     }
 
     /// The bytes of the entry in this frame.

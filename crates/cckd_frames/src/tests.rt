@@ -1,5 +1,5 @@
-ghost use Rattle.std.specs.Prelude.{◌≡◌, ◌≤◌, ◌<◌};
-ghost use Rattle.cckd_frames.specs.Frames.{IsKept, IsUsed, keys, frames as frames_of};
+ghost use Rattle.std.specs.Prelude.{◌≡◌, ◌≤◌, ◌<◌, ◌-◌, ◌∷◌, length, take, IfSome, IsNone};
+ghost use Rattle.cckd_frames.specs.Frames.{IsKept, IsUsed, keys, holding, with_entries, frames as frames_of};
 
 use crate::{Frame, Frames};
 use lru::LruCache;
@@ -290,5 +290,35 @@ fn a_written_entry_can_be_marked(rt: HostRuntime) -> Result<(), Fail> {
     write_and_mark(&mut frames, frame, 7, 11);
     assert_eq!(rt; frames.bytes(frame), [7u8; 3].as_slice());
     assert_eq!(rt; frames.marked(frame), Some(11));
+    Ok(())
+}
+
+// Puts the bytes where the key is new.
+fn put_new(frames: &mut Frames, key: u32, bytes: &[u8]) -> Option<Frame>
+    requires { length bytes.now ≤ frames.old.frame_len }
+    ensures put { IfSome result (λ f. frames.new ≡ with_entries frames.old (holding f.0 key bytes.now ∷ take (frames.old.count - 1) frames.old.entries)) }
+    ensures same { IsNone result → frames.new ≡ frames.old }
+    ensures len { frames.new.frame_len ≡ frames.old.frame_len }
+{
+    if frames.peek(key).is_some() {
+        return None;
+    }
+    Some(frames.put(key, bytes))
+}
+
+#[test]
+fn bytes_are_put_over_those_of_the_last_entry(rt: HostRuntime) -> Result<(), Fail> {
+    let mut frames = Frames::new(rt.alloc(), 2, 4)?;
+    let long = put_new(&mut frames, 7, b"long".as_slice());
+    let more = put_new(&mut frames, 8, b"more".as_slice());
+    let last = put_new(&mut frames, 9, b"last".as_slice());
+    assert_eq!(rt;
+        (long, more, last),
+        (Some(Frame(0)), Some(Frame(1)), Some(Frame(0)))
+    );
+    assert_eq!(rt; (frames.key_at(0), frames.key_at(1)), (Some(9), Some(8)));
+    let frame = frames.peek(9).expect(&rt, "9 is there");
+    assert_eq!(rt; frames.bytes(frame), b"last".as_slice());
+    assert_eq!(rt; frames.marked(frame), None);
     Ok(())
 }

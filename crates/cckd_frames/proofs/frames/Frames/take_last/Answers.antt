@@ -42,7 +42,7 @@ invariant_of-self c =
     let new = c.enter.ensures.taken ∙ ap (λ (l : List ℕ). taken i.count x c.args.key l) left in
     let back = new in
     let made : min i.count (i.used + 1) * i.frame_len ≤ length cs = subst (λ (l : List ℕ). min i.count (i.used + 1) * i.frame_len ≤ length l) (sym c.reach.ensures.filled)
-        (subst (λ n. n * i.frame_len ≤ length (filled end i.bytes.bytes)) c.min-used.ensures (length-filled end i.bytes.bytes)) in
+    (subst (λ n. n * i.frame_len ≤ length (filled end i.bytes.bytes)) c.min-used.ensures (length-filled end i.bytes.bytes)) in
     let fresh = no_such_key i.count i.frame_len i.used i.nodes.words cs s c.args.key (subst (λ (k : Kept). IsNone (entry_of c.args.key k.entries)) (sym is) c.requires.absent) in
     let whole = back ∙ ap (λ y. taken i.count y c.args.key (cleared i.count i.used i.nodes.words)) at in (
       subst (λ (l : List ℕ). IsSound i.count i.frame_len c.min-used.result l cs) (sym whole)
