@@ -11,22 +11,18 @@ mod turn;
 
 use std::{env, io};
 
-fn untimed(rt: &HostRuntime) -> io::Result<()> {
-    turn::count(rt)?;
-    space::measure(rt, 200, false)
-}
-
 fn main(rt: HostRuntime) -> io::Result<()> {
     let mut words = env::args(&rt)?.skip(1);
     let Some(word) = words.next() else {
-        return untimed(&rt);
+        turn::count(&rt, rt.alloc())?;
+        return space::measure(&rt, 200, false);
     };
     let mut numbers = Vec::new(rt.alloc());
     for word in words {
         numbers.push(word.as_str().parse::<u64>().unwrap_or(1))?;
     }
     match word.as_str() {
-        "turn" => turn::measure(&rt, &numbers),
+        "turn" => turn::measure(&rt, rt.alloc(), &numbers),
         "frames" => frames::measure(&rt),
         "make-frames" => frames::make_twice(&rt),
         "space" => space::measure(&rt, first(&numbers), true),

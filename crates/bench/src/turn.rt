@@ -56,22 +56,26 @@ fn compared<R: Threads + Wait + Sync + Clock + Print>(
 }
 
 /// Few calls, which are counted and not timed.
-pub fn count(rt: &HostRuntime) -> io::Result<()> {
+pub fn count<R: Threads + Wait + Sync + Clock + Print>(rt: &R, alloc: Global) -> io::Result<()> {
     for threads in UNTIMED {
-        compared(rt, rt.alloc(), 10_000, threads, false)?;
+        compared(rt, alloc, 10_000, threads, false)?;
     }
     Ok(())
 }
 
 /// The first number is that of the calls, and the others of the threads.
-pub fn measure(rt: &HostRuntime, numbers: &[u64]) -> io::Result<()> {
+pub fn measure<R: Threads + Wait + Sync + Clock + Print>(
+    rt: &R,
+    alloc: Global,
+    numbers: &[u64],
+) -> io::Result<()> {
     let [calls, threads @ ..] = numbers else {
         return Ok(());
     };
     let calls = (*calls).clamp(1, 1 << 40);
     for number in threads {
         let threads = (*number).clamp(1, 64) as u32;
-        compared(rt, rt.alloc(), calls, threads, true)?;
+        compared(rt, alloc, calls, threads, true)?;
     }
     Ok(())
 }
