@@ -1,13 +1,15 @@
-//! Finds and takes per second of `cckd_frames`, beside `lru` with boxed bytes.
+//! Finds and takes per second of `cckd_frames`, beside `lru` with boxed bytes. It measures where its
+//! argument is `run`, makes frames and says so where it is `make`, and prints nothing without one.
+#![tactic(auto)]
 
 ghost use Rattle.std.specs.Prelude.{◌≤◌};
 
 use cckd_frames::Frames;
 use lru::LruCache;
 use std::alloc::Global;
-use std::io;
 use std::num::NonZeroUsize;
 use std::time::{Duration, Instant};
+use std::{env, io};
 
 const FRAME_LEN: u32 = 65_024;
 
@@ -79,7 +81,7 @@ fn per_second(calls: u32, spent: Duration) -> u64 {
     u64::from(calls) * 1_000_000_000 / nanos.max(1)
 }
 
-fn measure_with(rt: &HostRuntime, count: u32) -> io::Result<()> {
+fn measure(rt: &HostRuntime, count: u32) -> io::Result<()> {
     if count < 1 || count > 4_096 {
         return Ok(());
     }
@@ -124,14 +126,21 @@ fn make(rt: &HostRuntime) -> io::Result<()> {
     }
 }
 
-/// Makes frames twice.
-pub fn make_twice(rt: &HostRuntime) -> io::Result<()> {
-    make(rt)?;
-    make(rt)
-}
-
-/// With few frames and with many.
-pub fn measure(rt: &HostRuntime) -> io::Result<()> {
-    measure_with(rt, 64)?;
-    measure_with(rt, 4_096)
+fn main(rt: HostRuntime) -> io::Result<()> {
+    let mut words = env::args(&rt)?;
+    let _name = words.next();
+    if let Some(word) = words.next() {
+        match word.as_str() {
+            "run" => {
+                measure(&rt, 64)?;
+                measure(&rt, 4_096)?;
+            }
+            "make" => {
+                make(&rt)?;
+                make(&rt)?;
+            }
+            _ => {}
+        }
+    }
+    Ok(())
 }

@@ -1,21 +1,29 @@
 //! Calls per second of a counter that threads use by tickets, beside the same counter in a `Mutex`.
 //!
-//! `measure` makes as many calls in all as the first number says, with each number of threads behind it, and prints how
-//! many were made a second by turns for each 100 by the lock. `count` makes 10,000 calls with one, two and five
-//! threads, and prints only how many were counted.
+//! `bench_turn CALLS THREADS..` makes CALLS calls in all with each number of THREADS, and prints how many were made a
+//! second by turns for each 100 by the lock. With no words it makes 10,000 calls with one, two and five threads, and
+//! prints only how many were counted.
+#![tactic(auto)]
 
 ghost use Rattle.std.specs.Prelude.{◌^◌, ◌<◌, ◌≤◌};
 
-use crate::race;
+mod counter;
+mod race;
+
 use std::alloc::Global;
-use std::io;
 use std::rt::Clock;
 use std::sync::Wait;
 use std::thread::Threads;
 use std::time::{Duration, Instant};
+use std::{env, io};
 
 // How many threads race in the run that has no words.
 const UNTIMED: [u32; 3] = [1, 2, 5];
+
+// A word of the command line, or 1.
+fn number(word: &String) -> u64 {
+    word.as_str().parse::<u64>().unwrap_or(1)
+}
 
 fn per_second(calls: u64, time: Duration) -> u64 {
     let micros = time.as_micros().max(1);
@@ -55,27 +63,21 @@ fn compared<R: Threads + Wait + Sync + Clock + Print>(
     Ok(())
 }
 
-/// Few calls, which are counted and not timed.
-pub fn count<R: Threads + Wait + Sync + Clock + Print>(rt: &R, alloc: Global) -> io::Result<()> {
-    for threads in UNTIMED {
-        compared(rt, alloc, 10_000, threads, false)?;
-    }
-    Ok(())
-}
-
-/// The first number is that of the calls, and the others of the threads.
-pub fn measure<R: Threads + Wait + Sync + Clock + Print>(
-    rt: &R,
-    alloc: Global,
-    numbers: &[u64],
-) -> io::Result<()> {
-    let [calls, threads @ ..] = numbers else {
-        return Ok(());
-    };
-    let calls = (*calls).clamp(1, 1 << 40);
-    for number in threads {
-        let threads = (*number).clamp(1, 64) as u32;
-        compared(rt, alloc, calls, threads, true)?;
+fn main(rt: HostRuntime) -> io::Result<()> {
+    let mut words = env::args(&rt)?.skip(1);
+    match words.next() {
+        Some(word) => {
+            let calls = number(&word).clamp(1, 1 << 40);
+            for word in words {
+                let threads = number(&word).clamp(1, 64) as u32;
+                compared(&rt, rt.alloc(), calls, threads, true)?;
+            }
+        }
+        None => {
+            for threads in UNTIMED {
+                compared(&rt, rt.alloc(), 10_000, threads, false)?;
+            }
+        }
     }
     Ok(())
 }

@@ -1,14 +1,16 @@
 //! The time of a call of `cckd_space` over 10, 1,000 and 100,000 pieces.
 //!
-//! `measure` makes so many calls at each size, a placement and its release by turns, and prints what they added up to and,
-//! where it is timed, how long a call took.
+//! `bench_space CALLS` makes CALLS calls at each size, a placement and its release by turns, and
+//! prints how long a call took. With no words it makes 200 calls at each size, and prints only what
+//! they added up to.
+#![tactic(auto)]
 
 ghost use Rattle.cckd_space.specs.Plan.{IsNeed};
 
 use cckd_space::{Owner, Space};
 use std::alloc::Global;
-use std::io;
 use std::time::Instant;
+use std::{env, io};
 
 /// The used bytes before each gap.
 const USED: u32 = 64;
@@ -88,7 +90,7 @@ fn place_and_release(space: &mut Space, calls: u32) -> io::Result<u64> {
     Ok(sum)
 }
 
-fn measure_at(rt: &HostRuntime, pieces: u32, calls: u32, is_timed: bool) -> io::Result<()> {
+fn measure(rt: &HostRuntime, pieces: u32, calls: u32, is_timed: bool) -> io::Result<()> {
     let mut space = gapped(rt.alloc(), pieces)?;
     let start = Instant::now(rt)?;
     let sum = place_and_release(&mut space, calls)?;
@@ -101,10 +103,16 @@ fn measure_at(rt: &HostRuntime, pieces: u32, calls: u32, is_timed: bool) -> io::
     Ok(())
 }
 
-/// So many calls at each size.
-pub fn measure(rt: &HostRuntime, calls: u32, is_timed: bool) -> io::Result<()> {
+fn main(rt: HostRuntime) -> io::Result<()> {
+    let mut words = env::args(&rt)?.skip(1);
+    let word = words.next();
+    let is_timed = word.is_some();
+    let calls = match word {
+        Some(word) => word.as_str().parse::<u32>().unwrap_or(200),
+        None => 200,
+    };
     for pieces in [10, 1_000, 100_000] {
-        measure_at(rt, pieces, calls, is_timed)?;
+        measure(&rt, pieces, calls, is_timed)?;
     }
     Ok(())
 }
