@@ -11,7 +11,7 @@ use Rattle.cckd_top.specs.Run.{Ending, HasFileCause, HasCause, HasPut, EndingMak
 use Rattle.cckd_top.specs.World.{KeepsFiles, MakesThenPuts, IsPrinted}
 
 -- One ending, with its cause in the words, in the files and the script as they were at the start, or in a count of faults that
--- rose, explains the output and the status; no file is changed, and the base is synced before anything is put.
+-- rose, explains the output and the status; no file is changed, and slot 0 is synced before anything is put.
 pub record IsExplainedBy (tells : Type 0) (before after : World) (faults_before faults_after : Faults) (words : List (List ℕ))
     (status : ℕ) : Type 0 where
   pub end : Ending

@@ -95,7 +95,7 @@ HasPut tells w w' puts_rose status (unscripted entries) =
 HasPut tells w w' puts_rose status (cut entries) =
     (tells → PutsFront w w' (ending_text (cut entries))) × puts_rose × (status ≡ ending_status (cut entries))
 
--- the one operation of a mounting: the base is synced before it is looked at
+-- the one operation of a mounting: slot 0 is synced
 abbrev pub IsBaseSync : List Event → Type 0
 IsBaseSync ops = ops ≡ Synced 0 ∷ []
 

@@ -1,5 +1,5 @@
 -- What a run that only reads may do to the outside.
-use Rattle.std.specs.Prelude.{◌≡◌, ◌<◌, ⊤, ℕ, zero, suc, Bool, true, false, ◌||◌, List, ◌++◌, take, Some}
+use Rattle.std.specs.Prelude.{◌≡◌, ◌<◌, ⊤, ℕ, zero, suc, max, Bool, true, false, ◌||◌, List, ◌++◌, take, Some}
 use Rattle.std.specs.List.{AllByRecursion}
 use Rattle.cckd_shelf.specs.Events.{Event, Written, Torn, Cut, HalfCut, Synced, Put, Bound, Named, ops_of, is_sure, output_of, name_of, was_bound}
 use Rattle.cckd_shelf.specs.Faults.{Rose}
@@ -81,11 +81,11 @@ pub record PutsFront (old new : World) (text : List ℕ) : Type 0 where
   pub count : ℕ
   pub front : output_of new.events ≡ output_of old.events ++ take count text
 
--- the whole text was put, with the status that goes with it; or a fault of the output cut it short
+-- The whole text was put, with the status that goes with it; or a fault of the output cut it short, and the status is the greater of its and the text's.
 pub data IsPrinted (tells : Type 0) (old new : World) (text : List ℕ) (code : ℕ) (puts_rose : Type 0) (status : ℕ) : Type 0 where
   whole : (tells → output_of new.events ≡ output_of old.events ++ text) → status ≡ code
       → IsPrinted tells old new text code puts_rose status
-  cut_short : (tells → PutsFront old new text) → puts_rose → status ≡ 7
+  cut_short : (tells → PutsFront old new text) → puts_rose → status ≡ max code 7
       → IsPrinted tells old new text code puts_rose status
 
 -- the same of what a stage shows, by the count of failed puts

@@ -45,7 +45,7 @@ fn end_with<T: Stage>(stage: &mut T, text: &[u8], code: u8) -> u8
 {
     match put_all(stage, text) {
         Ok(()) => code,
-        Err(Failed) => FAULT,
+        Err(Failed) => code.max(FAULT),
     }
 }
 

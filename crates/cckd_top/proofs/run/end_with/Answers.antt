@@ -16,7 +16,7 @@ returns-in-Ok g c = record {
 
 pub returns-in-Err : goal.returns-in-Err
 returns-in-Err g c = record {
-  printed = cut_short (λ t. front_said _ _ _ (c.put_all.ensures.front t)) (raises_rose Puts _ _ c.in-Err.ensures.fails.rose) refl;
+  printed = cut_short (λ t. front_said _ _ _ (c.put_all.ensures.front t)) (raises_rose Puts _ _ c.in-Err.ensures.fails.rose) c.max.ensures;
   files = λ t. front_keeps _ _ _ (c.put_all.ensures.front t);
   script = λ t. (c.put_all.ensures.front t).put.script;
   fell = fails_fell Puts c.put_all.result _ _ c.put_all.ensures.fails;
