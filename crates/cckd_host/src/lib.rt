@@ -35,8 +35,9 @@ pub fn run_from<T: Stage, W: WordSource>(stage: T, alloc: Global, source: &W) ->
         }
         Err(_) => {
             // Where that can't be put either, the status says it.
-            let _ = put_all(&mut stage, b"no memory\n");
-            (stage, NO_MEMORY)
+            match put_all(&mut stage, b"no memory\n") {
+                Ok(()) | Err(_) => (stage, NO_MEMORY),
+            }
         }
     }
 }

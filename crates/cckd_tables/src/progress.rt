@@ -37,7 +37,7 @@ fn word_in(l: &Layout, words: &[u8], group: u32) -> u32
     requires { 4 * group + 4 ≤ length words.now }
     ensures { result ≡ number_at l.now.order w32 words.now (4 * group) }
 {
-    l.order.u32_of(part(words, 4 * group as usize))
+    l.order.read_u32(&words[4 * group as usize..])
 }
 
 /// Puts the spaces in order of position.

@@ -25,7 +25,7 @@ fn word_of<T: Stage>(stage: &mut T, base: Slot, l: &Layout, group: u32) -> Resul
 {
     let mut bytes = [0; 4];
     stage.read(base, u64::from(WORDS_AT) + 4 * u64::from(group), &mut bytes)?;
-    Ok(l.order.u32_of(bytes))
+    Ok(l.order.read_u32(&bytes))
 }
 
 /// The entry of a track in the table at a position.
