@@ -3,13 +3,13 @@ use Rattle.std.proofs.Common.{◌≡◌, ℕ, ◌<◌, ◌==◌, Bool, true, fal
 use Rattle.std.specs.Prelude.{◌&&◌, ◌||◌, not}
 use Rattle.std.proofs.Math.Path.{fun_ext}
 use Rattle.std.specs.Str.{bytes_eq}
-use Rattle.std.proofs.lemmas.Bool.{cases_Bool, cond-true, cond-false, both_ways, false_from_ne_true, eq-eqb, ne_eqb, eqb-true, eqb-false}
+use Rattle.std.proofs.lemmas.Bool.{cases_Bool, cond-true, cond-false, eq-eqb, ne_eqb, eqb-true, eqb-false}
 use Rattle.std.proofs.lemmas.List.{length-set, length-map, get_or-set_same, get_or-set_other}
 use Rattle.cckd_memory.specs.declared.places.Place.{Place}
 use Rattle.cckd_shelf.specs.Files.{overlaid}
-use Rattle.cckd_shelf.specs.Events.{Event, Written, Torn, Cut, HalfCut, Synced, Put, Bound, Name, Named, Nameless, is_name, name_of, was_bound, is_same, named_by, goes_by, is_about, begun, held_now, file_now}
+use Rattle.cckd_shelf.specs.Events.{Event, Bound, Name, Named, Nameless, is_name, name_of, was_bound, is_same, named_by, goes_by, is_about, held_now, file_now}
 use Rattle.cckd_shelf.specs.World.{World, with_file, with_present}
-use Rattle.cckd_shelf.proofs.NameLemmas.{same_text, text_is, same_is, about_own, name_was_bound}
+use Rattle.cckd_shelf.proofs.NameLemmas.{same_text, text_is, same_is, name_was_bound}
 use Rattle.cckd_memory.specs.Ops.{event_of, write_op, cut_op}
 use Rattle.cckd_memory.specs.Inside.{IsStored, no_place, place_at, without, content, content_by, loose_after, with_content}
 

@@ -1,5 +1,5 @@
 -- How a stage in memory keeps what it tells.
-use Rattle.std.specs.Prelude.{ℕ, ◌≡◌, ◌+◌, ◌<◌, bytes_eq, Bool, true, if◌then◌else◌, List, [], ◌∷◌, ◌++◌, length, reverse, drop, slice_index_or, slice_set, Option, Some, None, unwrap_or}
+use Rattle.std.specs.Prelude.{ℕ, ◌≡◌, ◌+◌, ◌<◌, bytes_eq, true, if◌then◌else◌, List, [], ◌∷◌, ◌++◌, length, reverse, drop, slice_index_or, slice_set, Option, Some, None, unwrap_or}
 use Rattle.std.specs.List.{position_from}
 use Rattle.cckd_memory.specs.declared.bytes.FileIn.{FileIn}
 use Rattle.cckd_memory.specs.declared.op.Op.{Op}

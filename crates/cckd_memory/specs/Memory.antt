@@ -1,5 +1,5 @@
 -- What a `MemoryStage` tells.
-use Rattle.std.specs.Prelude.{ℕ, ◌≡◌, ◌⊎◌, true, List, Option, drop}
+use Rattle.std.specs.Prelude.{◌≡◌, ◌⊎◌, true, drop}
 use Rattle.cckd_memory.specs.declared.counts.Counts.{Counts}
 use Rattle.cckd_memory.specs.declared.memory.MemoryStage.{MemoryStage}
 use Rattle.cckd_shelf.specs.Seen.{Seen}

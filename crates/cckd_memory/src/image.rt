@@ -1,9 +1,9 @@
 //! One outcome of a stop, for tests.
-ghost use Rattle.std.specs.Prelude.{◌≡◌, IfOk, OnOk};
+ghost use Rattle.std.specs.Prelude.{◌≡◌, ℕ, drop, slice_index_or, IfOk, OnOk};
 ghost use Rattle.cckd_shelf.specs.Files.{overlaid};
-ghost use Rattle.cckd_shelf.specs.Outcomes.{WriteLeaves, IsOutcome};
-ghost use Rattle.cckd_memory.specs.Ops.{events_from};
-ghost use Rattle.cckd_memory.specs.Images.{HeldAfter, LeftAfter};
+ghost use Rattle.cckd_shelf.specs.Outcomes.{IsOutcome};
+ghost use Rattle.cckd_memory.specs.Ops.{event_of, events_from};
+ghost use Rattle.cckd_memory.specs.Images.{write_by, cut_by, used_after, held_after, left_after, chosen};
 
 use crate::{Bytes, Memory, Op};
 use cckd_shelf::Slot;
@@ -20,7 +20,8 @@ pub fn image_of(
     slot: Slot,
     choices: &[u8],
 ) -> Result<Vec<u8>, Memory>
-    ensures { IfOk result (λ image. IsOutcome (events_from slot start.now ops.now) slot image.items) }
+    ensures outcome { IfOk result (λ image. IsOutcome (events_from slot start.now ops.now) slot image.items) }
+    ensures chosen { IfOk result (λ image. image.items ≡ chosen choices.now slot start.now ops.now) }
 {
     let at = slot.get();
     let mut held = Bytes::of(alloc, start)?;
@@ -29,12 +30,15 @@ pub fn image_of(
     for op in ops {
         let choice = first_of(rest);
         rest = rest_after(op, at, rest, choices);
-        make(alloc, op, at, choice, &mut held, &mut left)?;
+        leave(alloc, op, at, choice, &held, &mut left)?;
+        hold(alloc, op, at, choice, &mut held)?;
     }
     Ok(left.into_vec())
 }
 
-fn first_of(choices: &[u8]) -> u8 {
+fn first_of(choices: &[u8]) -> u8
+    ensures { result ≡ slice_index_or choices.now 0 0 }
+{
     match choices {
         [choice, ..] => *choice,
         [] => 0,
@@ -42,7 +46,9 @@ fn first_of(choices: &[u8]) -> u8 {
 }
 
 /// The choices for the operations after this one.
-fn rest_after<'a>(op: &Op, at: u8, rest: &'a [u8], all: &'a [u8]) -> &'a [u8] {
+fn rest_after<'a>(op: &Op, at: u8, rest: &'a [u8], all: &'a [u8]) -> &'a [u8]
+    ensures { (n : ℕ) → rest.now ≡ drop n all.now → result.now ≡ drop (used_after at (event_of op.now) n) all.now }
+{
     match op {
         Op::Sync { slot } if *slot == at => all,
         Op::Write { slot, .. } if *slot == at => without_first(rest),
@@ -53,46 +59,60 @@ fn rest_after<'a>(op: &Op, at: u8, rest: &'a [u8], all: &'a [u8]) -> &'a [u8] {
     }
 }
 
-fn without_first(choices: &[u8]) -> &[u8] {
+fn without_first(choices: &[u8]) -> &[u8]
+    ensures { result.now ≡ drop 1 choices.now }
+{
     match choices {
         [_, rest @ ..] => rest,
         [] => choices,
     }
 }
 
-/// Makes the operation on what the slot holds, and on what a stop leaves of it as the choice says.
-fn make(
+/// Makes the operation on what the slot holds. One that failed half way goes by the choice.
+fn hold(alloc: Global, op: &Op, at: u8, choice: u8, held: &mut Bytes) -> Result<(), Memory>
+    ensures { OnOk result (held.new ≡ held_after choice at (event_of op.now) held.old) }
+{
+    match op {
+        Op::Write { slot, pos, bytes } if *slot == at => write_whole(held, *pos, bytes.get()),
+        Op::Torn { slot, pos, bytes } if *slot == at => {
+            leave_write(alloc, held, *pos, bytes.get(), choice)
+        }
+        Op::Cut { slot, len } if *slot == at => {
+            held.cut(*len as usize);
+            Ok(())
+        }
+        Op::HalfCut { slot, len } if *slot == at => {
+            leave_cut(held, *len, choice);
+            Ok(())
+        }
+        _ => Ok(()),
+    }
+}
+
+/// Makes the operation on what a stop leaves, as the choice says, where the slot held this before it.
+fn leave(
     alloc: Global,
     op: &Op,
     at: u8,
     choice: u8,
-    held: &mut Bytes,
+    held: &Bytes,
     left: &mut Bytes,
 ) -> Result<(), Memory>
-    ensures held { OnOk result (HeldAfter op.now at held.old held.new) }
-    ensures left { OnOk result (LeftAfter op.now at held.old left.old left.new) }
+    ensures { OnOk result (left.new ≡ left_after choice at (event_of op.now) held.now left.old) }
 {
     match op {
         Op::Write { slot, pos, bytes } if *slot == at => {
-            write_whole(held, *pos, bytes.get())?;
             leave_write(alloc, left, *pos, bytes.get(), choice)
         }
         Op::Torn { slot, pos, bytes } if *slot == at => {
-            leave_write(alloc, held, *pos, bytes.get(), choice)?;
             leave_write(alloc, left, *pos, bytes.get(), choice)
         }
         Op::Cut { slot, len } if *slot == at => {
-            held.cut(*len as usize);
-            if choice != 0 {
-                left.cut(*len as usize);
-            }
+            leave_cut(left, *len, choice);
             Ok(())
         }
         Op::HalfCut { slot, len } if *slot == at => {
-            if choice != 0 {
-                held.cut(*len as usize);
-                left.cut(*len as usize);
-            }
+            leave_cut(left, *len, choice);
             Ok(())
         }
         Op::Sync { slot } if *slot == at => {
@@ -116,7 +136,15 @@ const MOST: u64 = 1 << 63;
 
 const SECTOR: u64 = 512;
 
-/// What a write that isn't synced may leave.
+fn leave_cut(file: &mut Bytes, len: u64, choice: u8)
+    ensures { file.new ≡ cut_by choice len file.old }
+{
+    if choice != 0 {
+        file.cut(len as usize);
+    }
+}
+
+/// What a write that isn't synced leaves by a choice.
 fn leave_write(
     alloc: Global,
     file: &mut Bytes,
@@ -124,7 +152,7 @@ fn leave_write(
     bytes: &[u8],
     choice: u8,
 ) -> Result<(), Memory>
-    ensures { OnOk result (WriteLeaves pos bytes.now file.old file.new) }
+    ensures { OnOk result (file.new ≡ write_by choice pos bytes.now file.old) }
 {
     if choice == 0 {
         return Ok(());

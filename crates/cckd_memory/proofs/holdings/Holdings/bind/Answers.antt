@@ -1,4 +1,4 @@
-use Rattle.std.proofs.Common.{rules, ◌≡◌, ◌<◌, ℕ, arith, refl, length, map, take, drop, set, ap, sym, ◌∙◌, subst, List, [], ◌∷◌, ◌++◌, Some, unwrap_or}
+use Rattle.std.proofs.Common.{rules, ◌≡◌, ◌<◌, arith, refl, length, map, take, drop, set, ap, sym, ◌∙◌, subst, List, [], ◌∷◌, ◌++◌, Some, unwrap_or}
 use Rattle.std.proofs.lemmas.List.{length-map, length-set}
 use Rattle.cckd_shelf.specs.Events.{Event, Bound}
 use Rattle.cckd_memory.specs.declared.places.Place.{Place}
