@@ -5,7 +5,7 @@ use Rattle.cckd_shelf.specs.Files.{overlaid}
 use Rattle.cckd_shelf.specs.Outcomes.{WriteLeaves}
 use Rattle.cckd_shelf.proofs.OutcomeLemmas.{write_made, length_overlaid, overlaid_within_range}
 use Rattle.cckd_shelf.proofs.SectorLemmas.{part_same}
-use Rattle.cckd_record_example.specs.Records.{Has, Shows, ShowsBeside, ShowsEither, AreApart}
+use Rattle.cckd_record_example.specs.Records.{Has, Shows, ShowsBeside, ShowsEither, LieApart}
 
 -- the record at p stays where another range is written
 has_stays : (p place : ℕ) (old bytes was file : List ℕ) → Has p old was → WriteLeaves place bytes was file
@@ -27,7 +27,7 @@ entry_stays place bytes was file long behind leaves =
     part_same was file 0 8 long leaves.no_shorter (λ i low high. leaves.before i (omega arith) (omega arith))
 
 -- a record beside the one that is shown, whole or torn
-pub shows_stays : (p place : ℕ) (old value was file : List ℕ) → length value ≡ 600 → 8 ≤ place → AreApart p place
+pub shows_stays : (p place : ℕ) (old value was file : List ℕ) → length value ≡ 600 → 8 ≤ place → LieApart p place
     → Shows p old was → WriteLeaves place value was file → Shows p old file
 shows_stays p place old value was file size behind (inl apart) h leaves = record {
   points = entry_stays place value was file (omega (arith, h.has.within, h.has.behind)) behind leaves ∙ h.points;
@@ -39,7 +39,7 @@ shows_stays p place old value was file size behind (inr apart) h leaves = record
 }
 
 -- the record was written beside the one that is shown
-pub placed_beside : (p place : ℕ) (old value was : List ℕ) → length value ≡ 600 → 8 ≤ place → AreApart p place
+pub placed_beside : (p place : ℕ) (old value was : List ℕ) → length value ≡ 600 → 8 ≤ place → LieApart p place
     → Shows p old was → ShowsBeside p old place value (overlaid was place value)
 placed_beside p place old value was size behind apart h = record {
   shows = shows_stays p place old value was (overlaid was place value) size behind apart h (write_made place value was);

@@ -11,12 +11,12 @@ use Rattle.cckd_shelf.specs.Outcomes.{EachOutcome}
 use Rattle.cckd_shelf.proofs.MomentLemmas.{at_once, joins, weaker}
 use Rattle.cckd_shelf.proofs.FrameLemmas.{spares_nothing, only_twice}
 use Rattle.cckd_record_example.specs.declared.updating.Version.{Version}
-use Rattle.cckd_record_example.specs.Records.{Shows, ShowsEither, AreApart, HasCause}
+use Rattle.cckd_record_example.specs.Records.{Shows, ShowsEither, LieApart, HasCause}
 use Rattle.cckd_record_example.specs.Versions.{AreInTurn, ShowsOne, last_place, last_value}
 
 -- the next one is apart from the value that is there
 pub next_apart : (place : ℕ) (us : List Version) (i : ℕ) (d : Version) → AreInTurn place us → i < length us
-    → AreApart (last_place place (take i us)) (get_or us i d).place
+    → LieApart (last_place place (take i us)) (get_or us i d).place
 next_apart place [] i d h low = absurd (omega arith)
 next_apart place (u ∷ us) zero d h low = h.0
 next_apart place (u ∷ us) (suc i) d h low = next_apart u.place us i d h.1 (omega arith)
@@ -58,11 +58,11 @@ done_first slot vs s = record {
 -- the stops of one update more
 pub stopped_more : (slot : ℕ) (vs : List Version) (i : ℕ) (u : Version) (value : List ℕ) (start now next : Seen) → DoneSoFar slot vs i start now → i < length vs → u ≡ get_or vs i u
     → value ≡ u.value.items → (Tells start → Tells now)
-    → ((place : ℕ) (old : List ℕ) → AreApart place u.place → StopLeaves slot (Shows place old) now → StopsLeave slot (ShowsEither place old u.place value) now next)
+    → ((place : ℕ) (old : List ℕ) → LieApart place u.place → StopLeaves slot (Shows place old) now → StopsLeave slot (ShowsEither place old u.place value) now next)
     → (place : ℕ) (old : List ℕ) → AreInTurn place vs → StopLeaves slot (Shows place old) start → StopsLeave slot (ShowsOne place old vs) start next
 stopped_more slot vs i u value start now next h low at is tells step place old turn each told =
-    let apart : AreApart (last_place place (take i vs)) u.place =
-    subst (λ (v : Version). AreApart (last_place place (take i vs)) v.place) (sym at) (next_apart place vs i u turn low) in
+    let apart : LieApart (last_place place (take i vs)) u.place =
+    subst (λ (v : Version). LieApart (last_place place (take i vs)) v.place) (sym at) (next_apart place vs i u turn low) in
     joins (EachOutcome slot (ShowsOne place old vs)) start.world.events now.world.events next.world.events (h.stopped place old turn each told)
     (weaker (EachOutcome slot (ShowsEither (last_place place (take i vs)) (last_value old (take i vs)) u.place value)) (EachOutcome slot (ShowsOne place old vs))
     now.world.events next.world.events
@@ -76,15 +76,15 @@ stopped_more slot vs i u value start now next h low at is tells step place old t
 
 pub done_more : (slot : ℕ) (vs : List Version) (i : ℕ) (u : Version) (value : List ℕ) (start now next : Seen) → DoneSoFar slot vs i start now → i < length vs → u ≡ get_or vs i u
     → value ≡ u.value.items → (Tells start → Tells now)
-    → ((place : ℕ) (old : List ℕ) → AreApart place u.place → StopLeaves slot (Shows place old) now → StopsLeave slot (ShowsEither place old u.place value) now next)
-    → ((place : ℕ) (old : List ℕ) → AreApart place u.place → StopLeaves slot (Shows place old) now → StopLeaves slot (Shows u.place value) next)
+    → ((place : ℕ) (old : List ℕ) → LieApart place u.place → StopLeaves slot (Shows place old) now → StopsLeave slot (ShowsEither place old u.place value) now next)
+    → ((place : ℕ) (old : List ℕ) → LieApart place u.place → StopLeaves slot (Shows place old) now → StopLeaves slot (Shows u.place value) next)
     → OnlyIn slot now next → next.faults ≡ now.faults → DoneSoFar slot vs (i + 1) start next
 done_more slot vs i u value start now next h low at is tells step done others still = record {
   stopped = stopped_more slot vs i u value start now next h low at is tells step;
   reached = λ place old turn each told file outcome.
       let one : i + 1 ≡ suc i = omega arith in
-      let apart : AreApart (last_place place (take i vs)) u.place =
-      subst (λ (v : Version). AreApart (last_place place (take i vs)) v.place) (sym at) (next_apart place vs i u turn low) in
+      let apart : LieApart (last_place place (take i vs)) u.place =
+      subst (λ (v : Version). LieApart (last_place place (take i vs)) v.place) (sym at) (next_apart place vs i u turn low) in
       let shows : Shows u.place value file = done (last_place place (take i vs)) (last_value old (take i vs)) apart (h.reached place old turn each) told file outcome in
       subst (λ (n : ℕ). Shows (last_place place (take n vs)) (last_value old (take n vs)) file) (sym one)
       (subst (λ (p : ℕ). Shows p (last_value old (take (suc i) vs)) file) (sym (place_more place vs i u low ∙ ap (λ (v : Version). v.place) (sym at)))

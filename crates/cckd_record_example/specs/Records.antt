@@ -1,7 +1,7 @@
 -- A file whose first eight bytes point to one record.
 use Rattle.std.specs.Prelude.{ℕ, ◌≡◌, ◌⊎◌, ◌+◌, ◌≤◌, List, length, take, Some}
 use Rattle.std.specs.Int.{w64, to_le_bytes}
-use Rattle.cckd_shelf.specs.declared.fault.Kind.TheVariants.{Writes, Syncs}
+use Rattle.cckd_shelf.specs.declared.fault.Kind.TheVariants.{Reads, Writes, Syncs}
 use Rattle.cckd_shelf.specs.Events.{name_of}
 use Rattle.cckd_shelf.specs.Faults.{Raises}
 use Rattle.cckd_shelf.specs.Files.{bytes_at}
@@ -28,12 +28,16 @@ abbrev pub ShowsEither : ℕ → List ℕ → ℕ → List ℕ → List ℕ → 
 ShowsEither old_place old place value file = Shows old_place old file ⊎ Shows place value file
 
 -- two records don't share a byte
-abbrev pub AreApart : ℕ → ℕ → Type 0
-AreApart a b = (a + 600 ≤ b) ⊎ (b + 600 ≤ a)
+abbrev pub LieApart : ℕ → ℕ → Type 0
+LieApart a b = (a + 600 ≤ b) ⊎ (b + 600 ≤ a)
 
 -- one write failed, or one sync, and nothing else did
 abbrev pub HasCause : Seen → Seen → Type 0
 HasCause old new = Raises Writes old.faults new.faults ⊎ Raises Syncs old.faults new.faults
+
+-- a look-up of the name, a write or a sync failed, and nothing else did
+abbrev pub HasStoreCause : Seen → Seen → Type 0
+HasStoreCause old new = Raises Reads old.faults new.faults ⊎ HasCause old new
 
 -- no call failed
 abbrev pub KeepsCounts : Seen → Seen → Type 0

@@ -1,7 +1,7 @@
 -- Versions of a record in a row.
 use Rattle.std.specs.Prelude.{ℕ, ◌≡◌, ◌⊎◌, ◌+◌, ◌^◌, ◌<◌, ◌≤◌, ⊤, List, [], ◌∷◌, length}
 use Rattle.cckd_record_example.specs.declared.updating.Version.{Version}
-use Rattle.cckd_record_example.specs.Records.{Shows, AreApart}
+use Rattle.cckd_record_example.specs.Records.{Shows, LieApart}
 
 -- the value is a record, and its place lies behind the entry
 pub record IsFit (version : Version) : Type 0 where
@@ -12,7 +12,7 @@ pub record IsFit (version : Version) : Type 0 where
 -- each goes to a place apart from the one before
 abbrev pub AreInTurn : ℕ → List Version → Type 0
 AreInTurn place [] = ⊤
-AreInTurn place (next ∷ rest) = AreApart place next.place × AreInTurn next.place rest
+AreInTurn place (next ∷ rest) = LieApart place next.place × AreInTurn next.place rest
 
 -- the file reads as the old value, or as that of one of the versions
 abbrev pub ShowsOne : ℕ → List ℕ → List Version → List ℕ → Type 0

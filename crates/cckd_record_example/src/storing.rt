@@ -1,8 +1,9 @@
 //! Bytes that stay at the front of a named file.
-ghost use Rattle.std.specs.Prelude.{◌<◌, ◌^◌, length, OnOk};
-ghost use Rattle.cckd_shelf.specs.Seen.{seen};
+ghost use Rattle.std.specs.Prelude.{◌<◌, ◌^◌, length, OnOk, OnErr};
+ghost use Rattle.cckd_shelf.specs.Seen.{seen, Fails};
+ghost use Rattle.cckd_shelf.specs.declared.fault.Kind.TheVariants.{Syncs};
 ghost use Rattle.cckd_shelf.specs.Stops.{StopLeaves, StopLeavesHeld};
-ghost use Rattle.cckd_record_example.specs.Records.{BeginsWith, HasName};
+ghost use Rattle.cckd_record_example.specs.Records.{BeginsWith, HasName, HasStoreCause, KeepsCounts};
 
 use cckd_shelf::{Failed, Shelf, Slot};
 
@@ -10,7 +11,11 @@ use cckd_shelf::{Failed, Shelf, Slot};
 /// stop leaves.
 pub fn store<S: Shelf>(shelf: &mut S, slot: Slot, name: &str, bytes: &[u8]) -> Result<(), Failed>
     requires { length bytes.now < 2 ^ 63 }
-    ensures { OnOk result (StopLeaves slot (BeginsWith bytes.now) (seen S.Shows shelf.new)) }
+    ensures stays { OnOk result (StopLeaves slot (BeginsWith bytes.now) (seen S.Shows shelf.new)) }
+
+    // It fails only where a call did.
+    ensures cause { OnErr result (HasStoreCause (seen S.Shows shelf.old) (seen S.Shows shelf.new)) }
+    ensures still { OnOk result (KeepsCounts (seen S.Shows shelf.old) (seen S.Shows shelf.new)) }
 {
     shelf.bind(slot, name)?;
     shelf.write(slot, 0, bytes)?;
@@ -21,7 +26,8 @@ pub fn store<S: Shelf>(shelf: &mut S, slot: Slot, name: &str, bytes: &[u8]) -> R
 /// back would not.
 fn make_stay<S: Shelf>(shelf: &mut S, slot: Slot, name: &str) -> Result<(), Failed>
     requires { HasName slot name.now (seen S.Shows shelf.old) }
-    ensures { OnOk result (StopLeavesHeld slot (seen S.Shows shelf.old) (seen S.Shows shelf.new)) }
+    ensures stays { OnOk result (StopLeavesHeld slot (seen S.Shows shelf.old) (seen S.Shows shelf.new)) }
+    ensures fails { Fails Syncs result (seen S.Shows shelf.old) (seen S.Shows shelf.new) }
 {
     shelf.sync(slot)
 }

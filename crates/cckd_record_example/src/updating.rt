@@ -5,7 +5,7 @@ ghost use Rattle.std.specs.List.{All};
 ghost use Rattle.cckd_shelf.specs.Seen.{seen};
 ghost use Rattle.cckd_shelf.specs.Frame.{OnlyIn};
 ghost use Rattle.cckd_shelf.specs.Stops.{StopLeaves, StopsLeave};
-ghost use Rattle.cckd_record_example.specs.Records.{Shows, ShowsBeside, ShowsEither, AreApart, HasCause, KeepsCounts};
+ghost use Rattle.cckd_record_example.specs.Records.{Shows, ShowsBeside, ShowsEither, LieApart, HasCause, KeepsCounts};
 ghost use Rattle.cckd_record_example.specs.Versions.{IsFit, AreInTurn, ShowsOne, last_place, last_value};
 
 use cckd_shelf::{Failed, Shelf, Slot};
@@ -23,10 +23,10 @@ pub fn update<S: Shelf>(shelf: &mut S, slot: Slot, place: u64, value: &[u8]) -> 
     requires size { length value.now ≡ 600 }
     requires behind { 8 ≤ place }
     requires room { place + 600 < 2 ^ 63 }
-    ensures stopped { (p : ℕ) (old : List ℕ) → AreApart p place
+    ensures stopped { (p : ℕ) (old : List ℕ) → LieApart p place
         → StopLeaves slot (Shows p old) (seen S.Shows shelf.old)
         → StopsLeave slot (ShowsEither p old place value.now) (seen S.Shows shelf.old) (seen S.Shows shelf.new) }
-    ensures done { (p : ℕ) (old : List ℕ) → AreApart p place
+    ensures done { (p : ℕ) (old : List ℕ) → LieApart p place
         → StopLeaves slot (Shows p old) (seen S.Shows shelf.old)
         → OnOk result (StopLeaves slot (Shows place value.now) (seen S.Shows shelf.new)) }
     ensures others { OnlyIn slot (seen S.Shows shelf.old) (seen S.Shows shelf.new) }
@@ -66,10 +66,10 @@ fn put_record<S: Shelf>(shelf: &mut S, slot: Slot, place: u64, value: &[u8]) -> 
     requires size { length value.now ≡ 600 }
     requires behind { 8 ≤ place }
     requires room { place + 600 < 2 ^ 63 }
-    ensures stopped { (p : ℕ) (old : List ℕ) → AreApart p place
+    ensures stopped { (p : ℕ) (old : List ℕ) → LieApart p place
         → StopLeaves slot (Shows p old) (seen S.Shows shelf.old)
         → StopsLeave slot (Shows p old) (seen S.Shows shelf.old) (seen S.Shows shelf.new) }
-    ensures placed { (p : ℕ) (old : List ℕ) → AreApart p place
+    ensures placed { (p : ℕ) (old : List ℕ) → LieApart p place
         → StopLeaves slot (Shows p old) (seen S.Shows shelf.old)
         → OnOk result (StopLeaves slot (ShowsBeside p old place value.now) (seen S.Shows shelf.new)) }
     ensures others { OnlyIn slot (seen S.Shows shelf.old) (seen S.Shows shelf.new) }
