@@ -29,3 +29,9 @@ stored slot bytes old mid new (Ok u) back first wrote held = λ told file outcom
     held_wrote (λ file. ⊤) (BeginsWith bytes) slot 0 bytes old mid wrote (first (back told)) (λ file h. tt) (λ file h. overlaid_within_range file 0 bytes) file
     (held (back told) file outcome)
 stored slot bytes old mid new (Err e) back first wrote held = tt
+
+-- a sync leaves the name
+pub keeps_name : (slot : ℕ) (name : List ℕ) (old new : Seen) (result : Result (Unit {0}) Failed) → (Tells new → Tells old)
+    → HasName slot name old → OnOk result (Makes (after_sync slot) old new) → OnOk result (HasName slot name new)
+keeps_name slot name old new (Ok u) back has synced = λ told. ap (λ (w : World). name_of w.events slot) (synced (back told)) ∙ has (back told)
+keeps_name slot name old new (Err e) back has synced = tt

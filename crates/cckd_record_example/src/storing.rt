@@ -12,6 +12,7 @@ use cckd_shelf::{Failed, Shelf, Slot};
 pub fn store<S: Shelf>(shelf: &mut S, slot: Slot, name: &str, bytes: &[u8]) -> Result<(), Failed>
     requires { length bytes.now < 2 ^ 63 }
     ensures stays { OnOk result (StopLeaves slot (BeginsWith bytes.now) (seen S.Shows shelf.new)) }
+    ensures named { OnOk result (HasName slot name.now (seen S.Shows shelf.new)) }
 
     // It fails only where a call did.
     ensures cause { OnErr result (HasStoreCause (seen S.Shows shelf.old) (seen S.Shows shelf.new)) }
@@ -27,6 +28,7 @@ pub fn store<S: Shelf>(shelf: &mut S, slot: Slot, name: &str, bytes: &[u8]) -> R
 fn make_stay<S: Shelf>(shelf: &mut S, slot: Slot, name: &str) -> Result<(), Failed>
     requires { HasName slot name.now (seen S.Shows shelf.old) }
     ensures stays { OnOk result (StopLeavesHeld slot (seen S.Shows shelf.old) (seen S.Shows shelf.new)) }
+    ensures named { OnOk result (HasName slot name.now (seen S.Shows shelf.new)) }
     ensures fails { Fails Syncs result (seen S.Shows shelf.old) (seen S.Shows shelf.new) }
 {
     shelf.sync(slot)
