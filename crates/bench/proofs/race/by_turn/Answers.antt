@@ -1,6 +1,6 @@
 use Rattle.std.proofs.Common.{◌≡◌, arith, length, ap, ◌∙◌}
 use Rattle.cckd_turn.proofs.CallerLemmas.{dealt_are_ready, all_are_back, written_back}
-use Rattle.bench_turn.proofs.race.by_turn.Goals as goal
+use Rattle.bench.proofs.race.by_turn.Goals as goal
 
 pub run-requires-clause-ready : goal.run-requires-clause-ready
 run-requires-clause-ready g c κs within =

@@ -1,24 +1,17 @@
 //! The time of a call of `cckd_space` over 10, 1,000 and 100,000 pieces.
-//!
-//! `bench_space CALLS` makes CALLS calls at each size, a placement and its release by turns, and
-//! prints how long a call took. With no words it makes 200 calls at each size, and prints only what
-//! they added up to.
-#![tactic(auto)]
-
 ghost use Rattle.cckd_space.specs.Plan.{IsNeed};
 
+use crate::sequence::next_number;
 use cckd_space::{Owner, Space};
 use std::alloc::Global;
+use std::io;
 use std::time::Instant;
-use std::{env, io};
+
+/// How many pieces there are, one size after the other.
+const SIZES: [u32; 3] = [10, 1_000, 100_000];
 
 /// The used bytes before each gap.
 const USED: u32 = 64;
-
-/// The next number of a fixed sequence.
-fn step(seed: u32) -> u32 {
-    seed.wrapping_mul(1_664_525).wrapping_add(1_013_904_223)
-}
 
 /// The size of a placement, one of 30 from 16 on.
 fn size_of(number: u32) -> u32
@@ -80,7 +73,7 @@ fn place_and_release(space: &mut Space, calls: u32) -> io::Result<u64> {
     let mut seed = 2311u32;
     let mut sum = 0u64;
     for _ in 0..calls / 2 {
-        seed = step(seed);
+        seed = next_number(seed);
         space.grow(2)?;
         if let Ok(pos) = space.place(size_of(seed >> 16)) {
             space.give_back(pos);
@@ -90,29 +83,33 @@ fn place_and_release(space: &mut Space, calls: u32) -> io::Result<u64> {
     Ok(sum)
 }
 
-fn measure(rt: &HostRuntime, pieces: u32, calls: u32, is_timed: bool) -> io::Result<()> {
+/// Makes so many calls over so many pieces. Answers the sum of the places, and the nanoseconds of a call.
+fn timed(rt: &HostRuntime, pieces: u32, calls: u32) -> io::Result<(u64, u128)> {
     let mut space = gapped(rt.alloc(), pieces)?;
     let start = Instant::now(rt)?;
     let sum = place_and_release(&mut space, calls)?;
     let spent = start.elapsed(rt)?;
-    println!(rt; "{pieces} pieces: {calls} calls, the places add up to {sum}")?;
-    if is_timed {
-        let nanos = spent.as_nanos() / u128::from(calls.max(1));
-        println!(rt; "  {nanos} ns a call")?;
-    }
-    Ok(())
+    Ok((sum, spent.as_nanos() / u128::from(calls.max(1))))
 }
 
-fn main(rt: HostRuntime) -> io::Result<()> {
-    let mut words = env::args(&rt)?.skip(1);
-    let word = words.next();
-    let is_timed = word.is_some();
+/// As many calls at each size as the word says, or 200, and how long a call took.
+pub fn measure(rt: &HostRuntime, word: Option<String>) -> io::Result<()> {
     let calls = match word {
         Some(word) => word.as_str().parse::<u32>().unwrap_or(200),
         None => 200,
     };
-    for pieces in [10, 1_000, 100_000] {
-        measure(&rt, pieces, calls, is_timed)?;
+    for pieces in SIZES {
+        let (_sum, nanos) = timed(rt, pieces, calls)?;
+        println!(rt; "{pieces} pieces: {nanos} ns a call")?;
+    }
+    Ok(())
+}
+
+/// 200 calls at each size, and what their places add up to.
+pub fn add_up(rt: &HostRuntime) -> io::Result<()> {
+    for pieces in SIZES {
+        let (sum, _nanos) = timed(rt, pieces, 200)?;
+        println!(rt; "{pieces} pieces: the places add up to {sum}")?;
     }
     Ok(())
 }

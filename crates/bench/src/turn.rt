@@ -1,21 +1,13 @@
 //! Calls per second of a counter that threads use by tickets, beside the same counter in a `Mutex`.
-//!
-//! `bench_turn CALLS THREADS..` makes CALLS calls in all with each number of THREADS, and prints how many were made a
-//! second by turns for each 100 by the lock. With no words it makes 10,000 calls with one, two and five threads, and
-//! prints only how many were counted.
-#![tactic(auto)]
-
 ghost use Rattle.std.specs.Prelude.{◌^◌, ◌<◌, ◌≤◌};
 
-mod counter;
-mod race;
-
+use crate::race;
 use std::alloc::Global;
+use std::io;
 use std::rt::Clock;
 use std::sync::Wait;
 use std::thread::Threads;
 use std::time::{Duration, Instant};
-use std::{env, io};
 
 // How many threads race in the run that has no words.
 const UNTIMED: [u32; 3] = [1, 2, 5];
@@ -63,21 +55,33 @@ fn compared<R: Threads + Wait + Sync + Clock + Print>(
     Ok(())
 }
 
-fn main(rt: HostRuntime) -> io::Result<()> {
-    let mut words = env::args(&rt)?.skip(1);
-    match words.next() {
-        Some(word) => {
-            let calls = number(&word).clamp(1, 1 << 40);
-            for word in words {
-                let threads = number(&word).clamp(1, 64) as u32;
-                compared(&rt, rt.alloc(), calls, threads, true)?;
-            }
-        }
-        None => {
-            for threads in UNTIMED {
-                compared(&rt, rt.alloc(), 10_000, threads, false)?;
-            }
-        }
+/// How many calls a word asks for: 1 to 2^40.
+pub fn calls_in(word: Option<String>) -> u64
+    ensures { result ≤ 2 ^ 40 }
+{
+    match word {
+        Some(word) => number(&word).clamp(1, 1 << 40),
+        None => 1,
+    }
+}
+
+/// So many calls in all, with as many threads as the word says, 1 to 64.
+pub fn measure<R: Threads + Wait + Sync + Clock + Print>(
+    rt: &R,
+    alloc: Global,
+    calls: u64,
+    word: &String,
+) -> io::Result<()>
+    requires { calls ≤ 2 ^ 40 }
+{
+    let threads = number(word).clamp(1, 64) as u32;
+    compared(rt, alloc, calls, threads, true)
+}
+
+/// 10,000 calls with one, two and five threads, and how many were counted.
+pub fn add_up<R: Threads + Wait + Sync + Clock + Print>(rt: &R, alloc: Global) -> io::Result<()> {
+    for threads in UNTIMED {
+        compared(rt, alloc, 10_000, threads, false)?;
     }
     Ok(())
 }

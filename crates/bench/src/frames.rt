@@ -1,26 +1,19 @@
-//! Finds and takes per second of `cckd_frames`, beside `lru` with boxed bytes. It measures where its
-//! argument is `run`, makes frames and says so where it is `make`, and prints nothing without one.
-#![tactic(auto)]
-
+//! Finds and takes per second of `cckd_frames`, beside `lru` with boxed bytes.
 ghost use Rattle.std.specs.Prelude.{◌≤◌};
 
+use crate::sequence::next_number;
 use cckd_frames::Frames;
 use lru::LruCache;
 use std::alloc::Global;
+use std::io;
 use std::num::NonZeroUsize;
 use std::time::{Duration, Instant};
-use std::{env, io};
 
 const FRAME_LEN: u32 = 65_024;
 
 const FINDS: u32 = 2_000_000;
 
 const TAKES: u32 = 20_000;
-
-/// The next number of a fixed sequence.
-fn step(seed: u32) -> u32 {
-    seed.wrapping_mul(1_664_525).wrapping_add(1_013_904_223)
-}
 
 /// Finds a key, or takes a frame for it.
 fn look(frames: &mut Frames, key: u32) -> bool {
@@ -37,7 +30,7 @@ fn look_often(frames: &mut Frames, first: u32, keys: u32, calls: u32) -> u32 {
     let mut seed = 2311u32;
     let mut found = 0u32;
     for call in 0..calls {
-        seed = step(seed);
+        seed = next_number(seed);
         let key = if keys == 0 { call } else { (seed >> 8) % keys };
         if look(frames, first.wrapping_add(key)) {
             found = found.wrapping_add(1);
@@ -61,7 +54,7 @@ fn look_often_at(
     let mut seed = 2311u32;
     let mut found = 0u32;
     for call in 0..calls {
-        seed = step(seed);
+        seed = next_number(seed);
         let key = if keys == 0 { call } else { (seed >> 8) % keys };
         let key = first.wrapping_add(key);
         if cache.get(&key).is_some() {
@@ -81,7 +74,7 @@ fn per_second(calls: u32, spent: Duration) -> u64 {
     u64::from(calls) * 1_000_000_000 / nanos.max(1)
 }
 
-fn measure(rt: &HostRuntime, count: u32) -> io::Result<()> {
+fn compare(rt: &HostRuntime, count: u32) -> io::Result<()> {
     if count < 1 || count > 4_096 {
         return Ok(());
     }
@@ -126,21 +119,20 @@ fn make(rt: &HostRuntime) -> io::Result<()> {
     }
 }
 
-fn main(rt: HostRuntime) -> io::Result<()> {
-    let mut words = env::args(&rt)?;
-    let _name = words.next();
-    if let Some(word) = words.next() {
-        match word.as_str() {
-            "run" => {
-                measure(&rt, 64)?;
-                measure(&rt, 4_096)?;
-            }
-            "make" => {
-                make(&rt)?;
-                make(&rt)?;
-            }
-            _ => {}
+/// With the word `run` it measures 64 and 4,096 frames, and with `make` it makes frames twice.
+pub fn measure(rt: &HostRuntime, word: Option<String>) -> io::Result<()> {
+    let Some(word) = word else {
+        return Ok(());
+    };
+    match word.as_str() {
+        "run" => {
+            compare(rt, 64)?;
+            compare(rt, 4_096)
         }
+        "make" => {
+            make(rt)?;
+            make(rt)
+        }
+        _ => Ok(()),
     }
-    Ok(())
 }
