@@ -1,6 +1,6 @@
 -- What the layered disk answers to a call, and the stack after it.
 use Rattle.std.specs.Prelude.{◌≡◌, ⊤, ℕ, ◌+◌, ◌-◌, ◌==◌, nat_le, Bool, true, false, if◌then◌else◌, IsTrue, List, [], ◌∷◌, ◌++◌, length, replicate, Option, Some, None}
-use Rattle.std.specs.Option.{option_map, option_or}
+use Rattle.std.specs.Option.{option_map, option_or, option_to_list}
 use Rattle.cckd_base.specs.declared.geometry.Geometry.{Geometry}
 use Rattle.cckd_base.specs.declared.geometry.Addr.{Addr}
 use Rattle.cckd_base.specs.declared.geometry.Track.{Track}
@@ -145,6 +145,10 @@ is_refused _ = false
 -- the stack after a call with its reply: a refusal keeps it
 abbrev pub stack_after_call : Geometry → Stack → Request → Reply → Stack
 stack_after_call g s r said = if is_refused said then s else answered_stack g s r
+
+-- what a call with its reply wrote
+abbrev pub pairs_written : Geometry → Stack → Request → Reply → List Pair
+pairs_written g s r said = if is_refused said then [] else option_to_list (pair_by g s r)
 
 -- ---- answers
 

@@ -5,3 +5,4 @@ pub mod Answers
 pub mod History
 pub mod Stops
 pub mod Opened
+pub mod Moments

@@ -6,7 +6,7 @@ use Rattle.cckd_base.specs.declared.call.Call.{Call}
 use Rattle.cckd_base.specs.declared.call.Call.TheVariants as call
 use Rattle.cckd_base.specs.declared.reply.Reply.{Reply}
 use Rattle.cckd_stack.specs.Layers.{Layer, Stack, top, below, shadow, empty_layer, merged, dropped}
-use Rattle.cckd_stack.specs.Answers.{Request, Pair, pair_by, is_refused}
+use Rattle.cckd_stack.specs.Answers.{Request, Pair, pair_by, pairs_written, is_refused}
 use Rattle.cckd_stack.specs.History.{Entry, History, breaks, broken_at, stack_after}
 
 -- the track has these bytes in one of the pairs
@@ -69,15 +69,11 @@ hardened g s0 [] = s0
 hardened g s0 (e ∷ earlier) =
     if hardens e.request.asked e.answer.reply then stack_after g s0 (e ∷ earlier) else hardened g s0 earlier
 
--- what an entry wrote
-abbrev pub pairs_written : Geometry → Stack → Entry → List Pair
-pairs_written g s e = if is_refused e.answer.reply then [] else option_to_list (pair_by g s e.request)
-
 -- what was written since
 abbrev pub written_later : Geometry → Stack → History → List Pair
 written_later g s0 [] = []
 written_later g s0 (e ∷ earlier) =
-    if hardens e.request.asked e.answer.reply then [] else pairs_written g (stack_after g s0 earlier) e ++ written_later g s0 earlier
+    if hardens e.request.asked e.answer.reply then [] else pairs_written g (stack_after g s0 earlier) e.request e.answer.reply ++ written_later g s0 earlier
 
 -- what may be left by a stop within a call, behind a history without a break
 abbrev pub StaysWithin : Geometry → Stack → History → Request → Stack → Type 0
