@@ -77,8 +77,7 @@ pub runs_at_puts : (tied : List Event → Type 0) (broken : Option ℕ) (text : 
     → (Tells new → Tells old) → PutsSome text old new → Runs tied broken old → Runs tied broken new
 runs_at_puts tied broken text old new step tells put runs none told =
     let was = runs none (tells told) in
-    let p = (put (tells told)).put in
-    (
+    let p = (put (tells told)).put in (
       subst (λ (es : List Event). IsTrue (is_sure es)) (sym p.events) (subst IsTrue (sym (sure_at_puts p.pieces old.world.events)) was.0),
       subst tied (sym p.events) (tied_at_puts tied step p.pieces old.world.events was.1),
     )
@@ -110,6 +109,15 @@ module _ (session : Option ℕ) (r : Request) (said : Answer) (s0 : Stack) (h : 
       (sym (ap stack put.put.events ∙ stack_at_puts stack law put.put.pieces mid.events))
       (subst (λ (e : Entry). Stands s0 (e ∷ h) (record { geometry = g; stack = stack mid.events; calls = calls; broken = broken; tally = tally })) same_entry stands)
 
+-- so it does where no call is answered
+pub stands_at_text : (s0 : Stack) (h : History) (text : List ℕ) (old new : World) (g : Geometry) (stack : List Event → Stack) (calls : ℕ) (broken : Option ℕ)
+    (tally : Tally) → ((bytes : List ℕ) (es : List Event) → stack (Put bytes ∷ es) ≡ stack es) → PutsFront text old new
+    → Stands s0 h (record { geometry = g; stack = stack old.events; calls = calls; broken = broken; tally = tally })
+    → Stands s0 h (record { geometry = g; stack = stack new.events; calls = calls; broken = broken; tally = tally })
+stands_at_text s0 h text old new g stack calls broken tally law put stands =
+    subst (λ (x : Stack). Stands s0 h (record { geometry = g; stack = x; calls = calls; broken = broken; tally = tally }))
+    (sym (ap stack put.put.events ∙ stack_at_puts stack law put.put.pieces old.events)) stands
+
 -- ---- at each moment
 
 module _ (g : Geometry) (s0 : Stack) (h : History) (e : Entry) (old mid : List Event) where
@@ -135,27 +143,27 @@ by_lines g s0 h e (suc n) es within after = after
 module _ (g : Geometry) (s0 : Stack) (h : History) (e : Entry) (text : List ℕ) (one : IsLine text) (old mid new : World)
     (step : KeepsHistory g s0 h e old.events mid.events) (silent : output_of mid.events ≡ output_of old.events) (put : PutsFront text mid new)
   where
-  saying : AtEach mid.events new.events (LinesAt g s0 h (of_call e ∷ []) (output_of old.events))
-  saying =
-      at_puts (LinesAt g s0 h (of_call e ∷ []) (output_of old.events)) (take put.count text) mid new put.put
-      (λ ps more is.
-      let lines : lines_since (output_of old.events) (puts ps ++ mid.events) ≡ feeds (joined ps) =
-      lines_behind (output_of old.events) (joined ps) (puts ps ++ mid.events)
-      (output_puts ps mid.events ∙ ap (λ (s : List ℕ). s ++ joined ps) silent) in
-      record {
-        few = omega (arith, lines, front_feeds (joined ps) more text put.count is, feeds_line text one);
-        stops = by_lines g s0 h e (lines_since (output_of old.events) (puts ps ++ mid.events)) (puts ps ++ mid.events)
-            (each_at_puts g (SurvivesWithin g s0 h e.request) ps mid.events (at_end (EachOpens g (SurvivesWithin g s0 h e.request)) old.events mid.events step.each))
-            (each_at_puts g (Survives g s0 (e ∷ h)) ps mid.events step.after);
-      })
+    saying : AtEach mid.events new.events (LinesAt g s0 h (of_call e ∷ []) (output_of old.events))
+    saying =
+        at_puts (LinesAt g s0 h (of_call e ∷ []) (output_of old.events)) (take put.count text) mid new put.put
+        (λ ps more is.
+        let lines : lines_since (output_of old.events) (puts ps ++ mid.events) ≡ feeds (joined ps) =
+        lines_behind (output_of old.events) (joined ps) (puts ps ++ mid.events)
+        (output_puts ps mid.events ∙ ap (λ (s : List ℕ). s ++ joined ps) silent) in
+        record {
+          few = omega (arith, lines, front_feeds (joined ps) more text put.count is, feeds_line text one);
+          stops = by_lines g s0 h e (lines_since (output_of old.events) (puts ps ++ mid.events)) (puts ps ++ mid.events)
+              (each_at_puts g (SurvivesWithin g s0 h e.request) ps mid.events (at_end (EachOpens g (SurvivesWithin g s0 h e.request)) old.events mid.events step.each))
+              (each_at_puts g (Survives g s0 (e ∷ h)) ps mid.events step.after);
+        })
 
-  pub serves : KeepsLine g s0 h (of_call e) (output_of old.events) old.events new.events
-  serves = record {
-    each = joins (LinesAt g s0 h (of_call e ∷ []) (output_of old.events)) old.events mid.events new.events
-        (calling g s0 h e old.events mid.events step silent) saying;
-    after = subst (λ (es : List Event). EachOpens g (Survives g s0 (e ∷ h)) es) (sym put.put.events)
-        (each_at_puts g (Survives g s0 (e ∷ h)) put.put.pieces mid.events step.after);
-  }
+    pub serves : KeepsLine g s0 h (of_call e) (output_of old.events) old.events new.events
+    serves = record {
+      each = joins (LinesAt g s0 h (of_call e ∷ []) (output_of old.events)) old.events mid.events new.events
+          (calling g s0 h e old.events mid.events step silent) saying;
+      after = subst (λ (es : List Event). EachOpens g (Survives g s0 (e ∷ h)) es) (sym put.put.events)
+          (each_at_puts g (Survives g s0 (e ∷ h)) put.put.pieces mid.events step.after);
+    }
 
 -- nothing is put where a line was cut before
 pub serves_mute : (g : Geometry) (s0 : Stack) (h : History) (e : Entry) (old new : List Event) → KeepsHistory g s0 h e old new → output_of new ≡ output_of old

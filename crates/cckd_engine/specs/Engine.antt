@@ -60,6 +60,14 @@ standing shows makes engine = record {
   tally = engine.tally;
 }
 
+-- only the stage is another
+pub record IsWithStage {T D : Type 0} (new old : Engine T D) : Type 0 where
+  pub disk : new.disk ≡ old.disk
+  pub calls : new.calls ≡ old.calls
+  pub broken : new.broken ≡ old.broken
+  pub tally : new.tally ≡ old.tally
+  pub mute : new.mute ≡ old.mute
+
 -- An engine stands for a history, which began with a stack: the history is legal, the numbers that are kept are its own, and
 -- so is the stack while no call broke it.
 pub record Stands (s0 : Stack) (h : History) (s : Standing) : Type 0 where

@@ -25,7 +25,13 @@ pub trait Disk {
     ghost tied: { Self → List Event → Type 0 };
 
     /// Makes a call. Bytes that it gives are `input`, and those that it is answered go to the front of `out`.
-    fn perform<T: Stage>(&mut self, stage: &mut T, call: Call, input: &[u8], out: &mut [u8]) -> Reply
+    fn perform<T: Stage>(
+        &mut self,
+        stage: &mut T,
+        call: Call,
+        input: &[u8],
+        out: &mut [u8],
+    ) -> Reply
         requires ready { IsReady (tied self.old) (seen T.Shows stage.old) }
         requires asks { CanAsk call (length input.now) (length out.old) }
         ensures answers { Tells (seen T.Shows stage.old) → MayAnswer (geometry self.old)
@@ -45,7 +51,7 @@ pub trait Disk {
             → was.stack ≡ stack self.old (seen T.Shows stage.old).world.events
             → IsHardened (geometry self.old) was (seen T.Shows stage.old).world.events
             → KeepsStops (geometry self.old) was (asks call input.now) result
-                (seen T.Shows stage.old).world.events (seen T.Shows stage.new).world.events }
+            (seen T.Shows stage.old).world.events (seen T.Shows stage.new).world.events }
 
         // A fault that was met is told, and no other count rose; nothing is put and nothing is taken.
         ensures counts { CountsReply result (seen T.Shows stage.old).faults (seen T.Shows stage.new).faults }

@@ -1,8 +1,10 @@
 //! The engine: a stage, the stack of layers on it, and the numbers of its calls.
-ghost use Rattle.std.specs.Prelude.{ℕ, Option, ◌≡◌, ◌<◌, ◌≤◌, ◌+◌, ◌-◌, ◌^◌, ◌∷◌, ◌++◌, true, false, None, length, not, IsNone, IsSome, IfSome};
+ghost use Rattle.std.specs.Prelude.{ℕ, Option, ◌≡◌, ◌<◌, ◌≤◌, ◌+◌, ◌-◌, ◌^◌, ◌∷◌, ◌++◌, true, false, None, length, not, IfOk, OnOk, OnErr, IsNone, IsSome, IfSome};
 ghost use Rattle.cckd_base.specs.declared.geometry.Geometry.{Geometry as Shape};
 ghost use Rattle.cckd_shelf.specs.Events.{output_of};
-ghost use Rattle.cckd_shelf.specs.Seen.{seen, Tells, Stays, Fails};
+ghost use Rattle.cckd_shelf.specs.declared.fault.Kind.TheVariants.{Puts, Takes};
+ghost use Rattle.cckd_shelf.specs.World.{after_take};
+ghost use Rattle.cckd_shelf.specs.Seen.{seen, Tells, Stays, Makes, Fails, AreNext};
 ghost use Rattle.cckd_shelf.specs.Frame.{PutsAll, PutsSome};
 ghost use Rattle.cckd_script.specs.Text.{FitsCall, IsLine, answered_length, answered_bytes, reply_line};
 ghost use Rattle.cckd_stack.specs.Layers.{Stack};
@@ -10,16 +12,14 @@ ghost use Rattle.cckd_stack.specs.History.{History, reply_breaks};
 ghost use Rattle.cckd_stack.specs.Stops.{Survives};
 ghost use Rattle.cckd_stack.specs.Moments.{EachOpens};
 ghost use Rattle.cckd_engine.specs.Calls.{CanAsk, CountsReply, KeepsRun, asks, answer_in};
-ghost use Rattle.cckd_engine.specs.Engine.{entry_of, no_tally, standing, Stands, Runs, KeepsHistory};
-ghost use Rattle.cckd_engine.specs.Lines.{KeepsLine, of_call, CountsServed, CountsCut, HasFront};
-
+ghost use Rattle.cckd_engine.specs.Engine.{entry_of, no_tally, standing, IsWithStage, Stands, Runs, KeepsHistory};
+ghost use Rattle.cckd_engine.specs.Lines.{KeepsLine, of_call, of_text, CountsServed, CountsCut, HasFront};
 
 use crate::disk::Disk;
 use crate::tally::Tally;
 use cckd_base::{Call, Refusal, Reply};
-
 use cckd_script::{LINE_ROOM, print_reply};
-use cckd_shelf::{Stage, put_all};
+use cckd_shelf::{Failed, Stage, put_all};
 
 /// A stage, the stack of layers on its files, and what was made of it so far.
 pub struct Engine<T, D> {
@@ -88,13 +88,13 @@ impl<T: Stage, D: Disk> Engine<T, D> {
         ensures stands { (session : Option ℕ) (s0 : Stack) (h : History) → Tells (seen T.Shows self.old.stage)
             → Stands s0 h (standing T.Shows D.Disk self.old)
             → Stands s0 (entry_of session (asks call input.now) (answer_in result out.new) (seen T.Shows self.new.stage).world.events ∷ h)
-                (standing T.Shows D.Disk self.new) }
+            (standing T.Shows D.Disk self.new) }
         ensures stops { (session : Option ℕ) (s0 : Stack) (h : History) → Tells (seen T.Shows self.old.stage)
             → Stands s0 h (standing T.Shows D.Disk self.old)
             → EachOpens (D.geometry self.old.disk) (Survives (D.geometry self.old.disk) s0 h) (seen T.Shows self.old.stage).world.events
             → KeepsHistory (D.geometry self.old.disk) s0 h
-                (entry_of session (asks call input.now) (answer_in result out.new) (seen T.Shows self.new.stage).world.events)
-                (seen T.Shows self.old.stage).world.events (seen T.Shows self.new.stage).world.events }
+            (entry_of session (asks call input.now) (answer_in result out.new) (seen T.Shows self.new.stage).world.events)
+            (seen T.Shows self.old.stage).world.events (seen T.Shows self.new.stage).world.events }
         ensures runs { Runs (D.tied self.new.disk) self.new.broken (seen T.Shows self.new.stage) }
         ensures geometry { D.geometry self.new.disk ≡ D.geometry self.old.disk }
         ensures calls { self.new.calls ≡ self.old.calls + 1 }
@@ -136,14 +136,14 @@ impl<T: Stage, D: Disk> Engine<T, D> {
         ensures stands { (s0 : Stack) (h : History) → Tells (seen T.Shows self.old.stage)
             → Stands s0 h (standing T.Shows D.Disk self.old)
             → Stands s0 (entry_of who (asks call input.now) (answer_in result.reply out.new) (seen T.Shows self.new.stage).world.events ∷ h)
-                (standing T.Shows D.Disk self.new) }
+            (standing T.Shows D.Disk self.new) }
         ensures stops { (s0 : Stack) (h : History) → Tells (seen T.Shows self.old.stage)
             → Stands s0 h (standing T.Shows D.Disk self.old)
             → EachOpens (D.geometry self.old.disk) (Survives (D.geometry self.old.disk) s0 h) (seen T.Shows self.old.stage).world.events
             → KeepsLine (D.geometry self.old.disk) s0 h
-                (of_call (entry_of who (asks call input.now) (answer_in result.reply out.new) (seen T.Shows self.new.stage).world.events))
-                (output_of (seen T.Shows self.old.stage).world.events)
-                (seen T.Shows self.old.stage).world.events (seen T.Shows self.new.stage).world.events }
+            (of_call (entry_of who (asks call input.now) (answer_in result.reply out.new) (seen T.Shows self.new.stage).world.events))
+            (output_of (seen T.Shows self.old.stage).world.events)
+            (seen T.Shows self.old.stage).world.events (seen T.Shows self.new.stage).world.events }
         ensures runs { Runs (D.tied self.new.disk) self.new.broken (seen T.Shows self.new.stage) }
         ensures geometry { D.geometry self.new.disk ≡ D.geometry self.old.disk }
         ensures calls { self.new.calls ≡ self.old.calls + 1 }
@@ -155,7 +155,7 @@ impl<T: Stage, D: Disk> Engine<T, D> {
         ensures printed { result.printed ≡ not self.new.mute }
         ensures said { Tells (seen T.Shows self.old.stage) → result.printed ≡ true
             → output_of (seen T.Shows self.new.stage).world.events ≡ output_of (seen T.Shows self.old.stage).world.events
-                ++ reply_line call result.reply (answered_bytes result.reply out.new) }
+            ++ reply_line call result.reply (answered_bytes result.reply out.new) }
         ensures front { Tells (seen T.Shows self.old.stage) → HasFront (output_of (seen T.Shows self.old.stage).world.events)
             (reply_line call result.reply (answered_bytes result.reply out.new)) (output_of (seen T.Shows self.new.stage).world.events) }
         ensures muted { self.old.mute ≡ true → self.new.mute ≡ true }
@@ -166,11 +166,92 @@ impl<T: Stage, D: Disk> Engine<T, D> {
     {
         let reply = self.step(call, input, out);
         let given = input.len() as u32;
-        self.mute = put_line(&mut self.stage, self.mute, who, call, given, &reply, out, line);
+        self.mute = put_line(
+            &mut self.stage,
+            self.mute,
+            who,
+            call,
+            given,
+            &reply,
+            out,
+            line,
+        );
         Served {
             reply,
             printed: !self.mute,
         }
+    }
+
+    /// Puts a text that answers no call. At a failure a front of it was put.
+    pub fn print(&mut self, text: &[u8]) -> Result<(), Failed>
+        ensures whole { OnOk result (PutsAll text.now (seen T.Shows self.old.stage) (seen T.Shows self.new.stage)) }
+        ensures front { PutsSome text.now (seen T.Shows self.old.stage) (seen T.Shows self.new.stage) }
+        ensures fails { Fails Puts result (seen T.Shows self.old.stage) (seen T.Shows self.new.stage) }
+        ensures rest { IsWithStage self.new self.old }
+
+        // The history stays, the engine runs, and a line that is put keeps what stops may leave.
+        ensures stands { (s0 : Stack) (h : History) → Tells (seen T.Shows self.old.stage)
+            → Stands s0 h (standing T.Shows D.Disk self.old) → Stands s0 h (standing T.Shows D.Disk self.new) }
+        ensures stops { (s0 : Stack) (h : History) → Tells (seen T.Shows self.old.stage) → IsLine text.now
+            → EachOpens (D.geometry self.old.disk) (Survives (D.geometry self.old.disk) s0 h) (seen T.Shows self.old.stage).world.events
+            → KeepsLine (D.geometry self.old.disk) s0 h (of_text text.now) (output_of (seen T.Shows self.old.stage).world.events)
+            (seen T.Shows self.old.stage).world.events (seen T.Shows self.new.stage).world.events }
+        ensures runs { Runs (D.tied self.old.disk) self.old.broken (seen T.Shows self.old.stage)
+            → Runs (D.tied self.new.disk) self.new.broken (seen T.Shows self.new.stage) }
+    {
+        put_all(&mut self.stage, text)
+    }
+
+    /// Takes the next bytes of the script, as the stage does.
+    pub fn take(&mut self, into: &mut [u8]) -> Result<usize, Failed>
+        requires { 0 < length into.old }
+        ensures fits { IfOk result (λ n. n ≤ length into.old) }
+        ensures next { IfOk result (λ n. AreNext n into.new (seen T.Shows self.old.stage)) }
+        ensures left { IfOk result (λ n. Makes (after_take n) (seen T.Shows self.old.stage) (seen T.Shows self.new.stage)) }
+        ensures kept { OnErr result (Stays (seen T.Shows self.old.stage) (seen T.Shows self.new.stage)) }
+        ensures fails { Fails Takes result (seen T.Shows self.old.stage) (seen T.Shows self.new.stage) }
+        ensures rest { IsWithStage self.new self.old }
+        ensures same { Tells (seen T.Shows self.old.stage) → (seen T.Shows self.new.stage).world.events ≡ (seen T.Shows self.old.stage).world.events }
+    {
+        self.stage.take(into)
+    }
+
+    /// How many calls were made.
+    pub fn calls(&self) -> u64
+        ensures { result ≡ self.now.calls }
+    {
+        self.calls
+    }
+
+    /// How many replies were refusals, by four kinds.
+    pub fn tally(&self) -> Tally
+        ensures { result ≡ self.now.tally }
+    {
+        self.tally
+    }
+
+    /// Whether a line was cut, since when none is put.
+    pub fn mute(&self) -> bool
+        ensures { result ≡ self.now.mute }
+    {
+        self.mute
+    }
+}
+
+impl<T: Stage, D: Disk + Drop> Engine<T, D> {
+    /// The stage.
+    pub fn into_stage(self) -> T
+        ensures { result ≡ self.stage }
+    {
+        let Engine {
+            stage,
+            disk: _,
+            calls: _,
+            broken: _,
+            tally: _,
+            mute: _,
+        } = self;
+        stage
     }
 }
 
