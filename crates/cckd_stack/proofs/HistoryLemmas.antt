@@ -145,11 +145,11 @@ module _ (g : Geometry) (s0 : Stack) (h : History) (r : Request) (s : Stack) whe
 pub lies_same : (s : Stack) (later : List Pair) → Lies s later s
 lies_same s later = record { below = refl; tracks = λ t. inl refl }
 
-top_with : (s : Stack) (layer : Layer) → top (with_top s layer) ≡ layer
+pub top_with : (s : Stack) (layer : Layer) → top (with_top s layer) ≡ layer
 top_with (base old) layer = refl
 top_with (shadow old lower) layer = refl
 
-below_with : (s : Stack) (layer : Layer) → below (with_top s layer) ≡ below s
+pub below_with : (s : Stack) (layer : Layer) → below (with_top s layer) ≡ below s
 below_with (base old) layer = refl
 below_with (shadow old lower) layer = refl
 

@@ -6,3 +6,4 @@ pub mod History
 pub mod Stops
 pub mod Opened
 pub mod Moments
+pub mod Tops
