@@ -1,5 +1,5 @@
 -- A call that is served: its step, and then its line.
-use Rattle.std.proofs.Common.{◌≡◌, ◌≢◌, ℕ, zero, suc, ◌+◌, ◌-◌, ◌≤◌, ◌==◌, Bool, true, false, cond, IsTrue, List, [], ◌∷◌, ◌++◌, length, take, drop, Option, None, refl, sym, ◌∙◌, ap, subst, arith, inl, inr, append-nil}
+use Rattle.std.proofs.Common.{◌≡◌, ◌≢◌, ℕ, zero, suc, ◌+◌, ◌≤◌, ◌==◌, Bool, true, false, cond, IsTrue, List, [], ◌∷◌, ◌++◌, length, take, drop, Option, refl, sym, ◌∙◌, ap, subst, arith, inl, inr, append-nil}
 use Rattle.std.specs.List.{AllByRecursion}
 use Rattle.std.proofs.lemmas.Bool.{cases_Bool, ne_eqb, cond-false}
 use Rattle.std.proofs.lemmas.List.{take-append-drop}
@@ -7,8 +7,8 @@ use Rattle.cckd_base.specs.declared.geometry.Geometry.{Geometry}
 use Rattle.cckd_shelf.specs.Events.{Event, Put, file_now, is_sure, output_of}
 use Rattle.cckd_shelf.specs.World.{World}
 use Rattle.cckd_shelf.specs.Seen.{Seen, Tells}
-use Rattle.cckd_shelf.specs.Outcomes.{IsCrashImage, AtEach}
-use Rattle.cckd_shelf.specs.Frame.{puts, joined, OnlyPuts, PutsFront, PutsAll, PutsSome}
+use Rattle.cckd_shelf.specs.Outcomes.{AtEach}
+use Rattle.cckd_shelf.specs.Frame.{puts, joined, OnlyPuts, PutsFront, PutsSome}
 use Rattle.cckd_shelf.proofs.MomentLemmas.{at_end, joins, weaker}
 use Rattle.cckd_shelf.proofs.PutLemmas.{silently, output_puts, sure_at_puts, image_at_puts, at_puts, puts_output}
 use Rattle.cckd_script.specs.Text.{IsLine}

@@ -7,10 +7,10 @@ use Rattle.cckd_base.specs.declared.geometry.Geometry.{Geometry}
 use Rattle.cckd_base.specs.declared.call.Call.{Call}
 use Rattle.cckd_base.specs.declared.call.Call.TheVariants as call
 use Rattle.cckd_base.specs.declared.reply.Reply.{Reply}
-use Rattle.cckd_stack.specs.Layers.{Layer, Stack, base, shadow, top, below, with_top, with_track}
-use Rattle.cckd_stack.specs.Answers.{Request, Pair, pair_by, with_pair, stacked, answered_stack, stack_after_call, is_refused}
+use Rattle.cckd_stack.specs.Layers.{Layer, Stack, base, shadow, top, below, with_top}
+use Rattle.cckd_stack.specs.Answers.{Request, Pair, pair_by, with_pair, stacked, answered_stack, is_refused}
 use Rattle.cckd_stack.specs.History.{Entry, History, breaks, broken_with, broken_at, stack_after}
-use Rattle.cckd_stack.specs.Stops.{IsAmong, TrackLies, LayerLies, Lies, LiesCalling, LiesWithin, call_hardens, hardens, hardened, written_later, StaysWithin, by_break, Survives, SurvivesWithin}
+use Rattle.cckd_stack.specs.Stops.{IsAmong, TrackLies, LayerLies, Lies, LiesCalling, LiesWithin, call_hardens, hardened, written_later, StaysWithin, by_break, Survives, SurvivesWithin}
 
 -- ---- more may be written later
 

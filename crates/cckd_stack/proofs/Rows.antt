@@ -1,5 +1,5 @@
 -- Small histories, worked out.
-use Rattle.std.proofs.Common.{◌≡◌, ◌⊎◌, ℕ, false, List, [], ◌∷◌, ◌++◌, replicate, Option, Some, None, unwrap_or, refl, sym, ◌∙◌, ap, inl, inr}
+use Rattle.std.proofs.Common.{◌≡◌, ◌⊎◌, ℕ, List, [], ◌∷◌, ◌++◌, replicate, Option, Some, None, unwrap_or, refl, sym, ◌∙◌, ap, inl, inr}
 use Rattle.cckd_base.specs.declared.geometry.Geometry.{Geometry}
 use Rattle.cckd_base.specs.declared.geometry.Addr.{Addr}
 use Rattle.cckd_base.specs.declared.call.Call.{Call}
@@ -8,10 +8,10 @@ use Rattle.cckd_base.specs.declared.reply.Reply.{Reply}
 use Rattle.cckd_base.specs.declared.reply.Reply.TheVariants as reply
 use Rattle.cckd_base.specs.declared.reply.Refusal.TheVariants as refusal
 use Rattle.cckd_base.specs.Track.{track_value, track_fault, home_fault, records_fault}
-use Rattle.cckd_stack.specs.Layers.{Layer, Stack, base, shadow, empty_layer, visible, with_track, top, layer_count, track_counts}
-use Rattle.cckd_stack.specs.Answers.{Request, Answer, plain, refused, first_refusal, refusal_to, IsAnswer, stack_after_call, counts_shown}
+use Rattle.cckd_stack.specs.Layers.{Layer, Stack, base, shadow, visible, with_track, top}
+use Rattle.cckd_stack.specs.Answers.{Request, plain, first_refusal, refusal_to, IsAnswer, stack_after_call, counts_shown}
 use Rattle.cckd_stack.specs.History.{Entry, History, broken_at, stack_after}
-use Rattle.cckd_stack.specs.Stops.{IsAmong, TrackLies, Lies, Survives, SurvivesWithin, hardened, written_later}
+use Rattle.cckd_stack.specs.Stops.{IsAmong, TrackLies, Lies, Survives, SurvivesWithin}
 
 -- a device of two cylinders with two heads
 abbrev small : Geometry

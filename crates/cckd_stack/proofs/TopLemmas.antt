@@ -1,16 +1,16 @@
 -- From the outcomes of the last layer's slot to those of all slots, and back.
-use Rattle.std.proofs.Common.{◌≡◌, ℕ, ◌+◌, ◌<◌, ◌≤◌, false, List, [], Option, Some, None, refl, sym, ◌∙◌, ap, subst, arith}
+use Rattle.std.proofs.Common.{◌≡◌, ℕ, ◌<◌, List, [], refl, sym, ◌∙◌, ap, subst, arith}
 use Rattle.cckd_base.specs.declared.geometry.Geometry.{Geometry}
 use Rattle.cckd_base.specs.Header.{is_present, base_identifier, shadow_identifier}
 use Rattle.cckd_shelf.specs.Events.{Event, file_now}
-use Rattle.cckd_shelf.specs.Outcomes.{IsOutcome, EachOutcome, OthersStill, AtEach}
+use Rattle.cckd_shelf.specs.Outcomes.{EachOutcome, OthersStill, AtEach}
 use Rattle.cckd_shelf.proofs.OutcomeLemmas.{now_is_outcome}
 use Rattle.cckd_shelf.proofs.MomentLemmas.{weaker, both}
 use Rattle.cckd_shelf.proofs.StopLemmas.{with_slot, slot_here, slot_other, image_with}
 use Rattle.cckd_stack.specs.Layers.{Layer, Stack, base, shadow, layer_count, top, below, with_top}
 use Rattle.cckd_stack.specs.Answers.{Pair}
 use Rattle.cckd_stack.specs.Stops.{LayerLies, Lies}
-use Rattle.cckd_stack.specs.Opened.{HoldsLayer, StandIn, Opens, OpensTo}
+use Rattle.cckd_stack.specs.Opened.{HoldsLayer, StandIn, OpensTo}
 use Rattle.cckd_stack.specs.Moments.{EachOpens}
 use Rattle.cckd_stack.specs.Tops.{top_slot, top_identifier, HoldsLies}
 use Rattle.cckd_stack.proofs.HistoryLemmas.{top_with, below_with}
@@ -117,34 +117,34 @@ stop_top g hard layer later more old es each others each_slot files image =
 module _ (g : Geometry) (hard : Stack) (later : List Pair) (old new : List Event) (slot : ℕ) (identifier : List ℕ)
     (at_slot : top_slot hard ≡ slot) (by_name : top_identifier hard ≡ identifier) (each : EachOpens g (Lies hard later) old)
   where
-  -- what its slot holds before the call
-  pub enters : EachOutcome slot (HoldsLies identifier g (top hard) later) old
-  enters =
-      subst (λ (n : ℕ). EachOutcome n (HoldsLies identifier g (top hard) later) old) at_slot
-      (subst (λ (i : List ℕ). EachOutcome (top_slot hard) (HoldsLies i g (top hard) later) old) by_name (each_top g hard later old each))
+    -- what its slot holds before the call
+    pub enters : EachOutcome slot (HoldsLies identifier g (top hard) later) old
+    enters =
+        subst (λ (n : ℕ). EachOutcome n (HoldsLies identifier g (top hard) later) old) at_slot
+        (subst (λ (i : List ℕ). EachOutcome (top_slot hard) (HoldsLies i g (top hard) later) old) by_name (each_top g hard later old each))
 
-  -- what a moment of the call leaves of the stack
-  pub leaves : (layer : Layer) (more : List Pair) (es : List Event) → EachOutcome slot (HoldsLies identifier g layer more) es → OthersStill slot old es
-      → EachOpens g (Lies (with_top hard layer) more) es
-  leaves layer more es here others =
-      stop_top g hard layer later more old es each
-      (subst (λ (n : ℕ). OthersStill n old es) (sym at_slot) others)
-      (subst (λ (n : ℕ). EachOutcome n (HoldsLies (top_identifier hard) g layer more) es) (sym at_slot)
-      (subst (λ (i : List ℕ). EachOutcome slot (HoldsLies i g layer more) es) (sym by_name) here))
+    -- what a moment of the call leaves of the stack
+    pub leaves : (layer : Layer) (more : List Pair) (es : List Event) → EachOutcome slot (HoldsLies identifier g layer more) es → OthersStill slot old es
+        → EachOpens g (Lies (with_top hard layer) more) es
+    leaves layer more es here others =
+        stop_top g hard layer later more old es each
+        (subst (λ (n : ℕ). OthersStill n old es) (sym at_slot) others)
+        (subst (λ (n : ℕ). EachOutcome n (HoldsLies (top_identifier hard) g layer more) es) (sym at_slot)
+        (subst (λ (i : List ℕ). EachOutcome slot (HoldsLies i g layer more) es) (sym by_name) here))
 
-  pub leaves_own : (more : List Pair) (es : List Event) → EachOutcome slot (HoldsLies identifier g (top hard) more) es → OthersStill slot old es
-      → EachOpens g (Lies hard more) es
-  leaves_own more es here others = subst (λ (s : Stack). EachOpens g (Lies s more) es) (with_own hard) (leaves (top hard) more es here others)
+    pub leaves_own : (more : List Pair) (es : List Event) → EachOutcome slot (HoldsLies identifier g (top hard) more) es → OthersStill slot old es
+        → EachOpens g (Lies hard more) es
+    leaves_own more es here others = subst (λ (s : Stack). EachOpens g (Lies s more) es) (with_own hard) (leaves (top hard) more es here others)
 
-  -- at each moment
-  pub leaves_each : (more : List Pair) → AtEach old new (EachOutcome slot (HoldsLies identifier g (top hard) more)) → AtEach old new (OthersStill slot old)
-      → AtEach old new (EachOpens g (Lies hard more))
-  leaves_each more here others =
-      weaker (λ es. EachOutcome slot (HoldsLies identifier g (top hard) more) es × OthersStill slot old es) (EachOpens g (Lies hard more)) old new
-      (λ es at. leaves_own more es at.0 at.1)
-      (both (EachOutcome slot (HoldsLies identifier g (top hard) more)) (OthersStill slot old) old new here others)
+    -- at each moment
+    pub leaves_each : (more : List Pair) → AtEach old new (EachOutcome slot (HoldsLies identifier g (top hard) more)) → AtEach old new (OthersStill slot old)
+        → AtEach old new (EachOpens g (Lies hard more))
+    leaves_each more here others =
+        weaker (λ es. EachOutcome slot (HoldsLies identifier g (top hard) more) es × OthersStill slot old es) (EachOpens g (Lies hard more)) old new
+        (λ es at. leaves_own more es at.0 at.1)
+        (both (EachOutcome slot (HoldsLies identifier g (top hard) more)) (OthersStill slot old) old new here others)
 
-  -- once the last layer is hardened as it is in a stack over the same layers
-  pub settles : (s : Stack) → below s ≡ below hard → EachOutcome slot (HoldsLies identifier g (top s) []) new → OthersStill slot old new
-      → EachOpens g (Lies s []) new
-  settles s same here others = subst (λ (x : Stack). EachOpens g (Lies x []) new) (with_top_is hard s same) (leaves (top s) [] new here others)
+    -- once the last layer is hardened as it is in a stack over the same layers
+    pub settles : (s : Stack) → below s ≡ below hard → EachOutcome slot (HoldsLies identifier g (top s) []) new → OthersStill slot old new
+        → EachOpens g (Lies s []) new
+    settles s same here others = subst (λ (x : Stack). EachOpens g (Lies x []) new) (with_top_is hard s same) (leaves (top s) [] new here others)

@@ -1,5 +1,5 @@
 -- Layers of tracks, a stack of them, and what the stack shows of a track.
-use Rattle.std.specs.Prelude.{◌≡◌, ℕ, ◌+◌, ◌<◌, ◌==◌, if◌then◌else◌, is_some, IsSome, List, [], ◌∷◌, ◌++◌, length, filter, Option, Some, None, unwrap_or}
+use Rattle.std.specs.Prelude.{ℕ, ◌+◌, ◌<◌, ◌==◌, if◌then◌else◌, is_some, IsSome, List, [], ◌∷◌, ◌++◌, length, filter, Option, Some, None, unwrap_or}
 use Rattle.std.specs.List.{range_with_len}
 use Rattle.std.specs.Option.{option_or}
 

@@ -1,5 +1,5 @@
 -- What a stop may leave of the layered disk, between calls and within one.
-use Rattle.std.specs.Prelude.{◌≡◌, ◌⊎◌, ℕ, ◌+◌, Bool, true, false, if◌then◌else◌, List, [], ◌∷◌, ◌++◌, Option, Some, None}
+use Rattle.std.specs.Prelude.{◌≡◌, ◌⊎◌, ℕ, Bool, true, false, if◌then◌else◌, List, [], ◌∷◌, ◌++◌, Option, Some, None}
 use Rattle.std.specs.Option.{option_to_list}
 use Rattle.cckd_base.specs.declared.geometry.Geometry.{Geometry}
 use Rattle.cckd_base.specs.declared.call.Call.{Call}
@@ -7,7 +7,7 @@ use Rattle.cckd_base.specs.declared.call.Call.TheVariants as call
 use Rattle.cckd_base.specs.declared.reply.Reply.{Reply}
 use Rattle.cckd_stack.specs.Layers.{Layer, Stack, top, below, shadow, empty_layer, merged, dropped}
 use Rattle.cckd_stack.specs.Answers.{Request, Pair, pair_by, pairs_written, is_refused}
-use Rattle.cckd_stack.specs.History.{Entry, History, breaks, broken_at, stack_after}
+use Rattle.cckd_stack.specs.History.{History, breaks, broken_at, stack_after}
 
 -- the track has these bytes in one of the pairs
 abbrev pub IsAmong : ℕ → List ℕ → List Pair → Type 0

@@ -1,5 +1,5 @@
 -- The last layer of a stack, and the file in its slot.
-use Rattle.std.specs.Prelude.{◌≡◌, ℕ, List}
+use Rattle.std.specs.Prelude.{ℕ, List}
 use Rattle.cckd_base.specs.declared.geometry.Geometry.{Geometry}
 use Rattle.cckd_base.specs.Header.{base_identifier, shadow_identifier}
 use Rattle.cckd_stack.specs.Layers.{Layer, Stack, base, shadow, layer_count}

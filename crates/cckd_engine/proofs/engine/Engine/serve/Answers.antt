@@ -1,4 +1,4 @@
-use Rattle.std.proofs.Common.{◌≡◌, Bool, true, false, not, refl, sym, ◌∙◌, ap}
+use Rattle.std.proofs.Common.{◌≡◌, Bool, true, false, not, refl, sym, ap}
 use Rattle.cckd_shelf.specs.Seen.{Seen, seen}
 use Rattle.cckd_script.specs.Text.{answered_bytes, reply_line}
 use Rattle.cckd_engine.specs.Calls.{asks, answer_in}
