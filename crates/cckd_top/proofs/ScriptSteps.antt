@@ -1,5 +1,5 @@
 -- What the loop that serves a script keeps.
-use Rattle.std.proofs.Common.{◌≡◌, ◌⊎◌, inl, inr, ℕ, ◌+◌, ◌-◌, ◌<◌, ◌≤◌, max, nat_lt, Bool, true, false, IsTrue, List, [], ◌∷◌, ◌++◌, length, map, take, drop, Result, Ok, Err, refl, sym, ◌∙◌, ap, subst, arith, append-nil}
+use Rattle.std.proofs.Common.{◌≡◌, ◌⊎◌, inl, inr, ℕ, ◌+◌, ◌-◌, ◌<◌, ◌≤◌, max, nat_lt, true, false, IsTrue, List, [], ◌∷◌, ◌++◌, length, map, take, drop, Result, Ok, Err, refl, sym, ◌∙◌, ap, subst, arith, append-nil}
 use Rattle.std.specs.List.{AllByRecursion}
 use Rattle.std.proofs.lemmas.Bool.{false≢true, cond-true, lt-ltb}
 use Rattle.std.proofs.lemmas.List.{map-append}
@@ -22,7 +22,7 @@ use Rattle.cckd_lines.specs.declared.lines.Place.{Place}
 use Rattle.cckd_lines.specs.declared.lines.Next.{Next}
 use Rattle.cckd_lines.specs.declared.lines.Next.TheVariants as next
 use Rattle.cckd_top.specs.declared.serving.Stop.TheVariants as stop
-use Rattle.cckd_lines.specs.Lines.{OnlyTakes, IsPlace, IsAtEnd, IsNext, Advances, BreaksOff, allowance, pending}
+use Rattle.cckd_lines.specs.Lines.{OnlyTakes, IsPlace, IsAtEnd, IsNext, Advances, BreaksOff, Held, held, text_of, allowance, pending}
 use Rattle.cckd_top.specs.Saying.{SaysAll}
 use Rattle.cckd_top.specs.Serving.{IsLegal, AreLegal, Serves, account_of, items_of_next, is_last, OfAFront, OfTheScript, ServesScript}
 use Rattle.cckd_top.specs.World.{KeepsFiles}
@@ -40,7 +40,7 @@ pub record IsServing (l : Layout) (limit : ℕ) (start now : Seen) (begun room :
   pub within : IsPlace room place
   pub ended : Tells start → IsAtEnd place now.world.script
   pub read : Tells start
-      → IsReadUpTo limit start.world.script (pending room place ++ now.world.script) (allowance place) place.ended (map item_of entries)
+      → IsReadUpTo limit start.world.script (held room place now.world.script) (map item_of entries)
   pub files : Tells start → KeepsFiles start.world now.world
   pub slot : Tells start → file_of now.world 0 ≡ file_of start.world 0
   pub long : length room ≡ length begun
@@ -54,7 +54,7 @@ serves_none l limit s room place is =
       said = record { put = λ t. sym (append-nil (output_of s.world.events)); asked = refl; counted = rose_none s.faults };
       within = record { order = omega arith; within = omega arith };
       ended = λ t e. absurd (false≢true e);
-      read = λ t. subst (λ (n : ℕ). IsReadUpTo limit s.world.script s.world.script n false []) (omega arith) (reads_none limit s.world.script);
+      read = λ t. reads_none limit s.world.script room;
       files = λ t. keeps_files_same s.world;
       slot = λ t. refl;
       long = refl;
@@ -75,40 +75,39 @@ none_behind : (a b : List ℕ) → a ++ b ≡ [] → b ≡ []
 none_behind [] b e = e
 none_behind (x ∷ a) b e = absurd (cc e)
 
-module _ (limit : ℕ) (script rest rest' room : List ℕ) (left : ℕ) (ended : Bool) (items : List Item) (behind : Place)
-    (so_far : IsReadUpTo limit script rest left ended items)
-  where
-    pub reads_next : (found : Next) → IsNext room rest rest' left behind found → is_last found ≡ false
-        → IsReadUpTo limit script rest' (allowance behind) behind.ended (items ++ items_of_next room found)
-    reads_next (next.Line start end) is going =
-        reads_on limit script rest left ended items so_far (take (end - start) (drop start room)) rest' (allowance behind) behind.ended is.0
-    reads_next next.LineTooLong is going =
-        subst (λ (more : List Item). IsReadUpTo limit script rest' (allowance behind) behind.ended (items ++ more)) (items_too_long is.0 is.2)
-        (reads_on limit script rest left ended items so_far is.0 rest' (allowance behind) behind.ended is.1)
-    reads_next next.ScriptTooLong is going = absurd (false≢true (sym going))
-    reads_next next.End is going = absurd (false≢true (sym going))
+module _ (limit : ℕ) (script : List ℕ) (now then : Held) (items : List Item) (so_far : IsReadUpTo limit script now items) where
+  pub reads_next : (found : Next) → IsNext now then found → is_last found ≡ false
+      → IsReadUpTo limit script then (items ++ items_of_next then.room found)
+  reads_next (next.Line start end) is going = reads_on limit script now items so_far (take (end - start) (drop start then.room)) then is.0
+  reads_next next.LineTooLong is going =
+      subst (λ (more : List Item). IsReadUpTo limit script then (items ++ more)) (items_too_long is.0 is.2)
+      (reads_on limit script now items so_far is.0 then is.1)
+  reads_next next.ScriptTooLong is going = absurd (false≢true (sym going))
+  reads_next next.End is going = absurd (false≢true (sym going))
 
-    pub reads_last : (left_of_it : List ℕ) (found : Next) → (rest' ≡ [] → left_of_it ≡ []) → (behind.end ≤ behind.start → left_of_it ≡ rest') → IsNext room rest rest' left behind found → is_last found ≡ true
-        → ((items ++ items_of_next room found) ++ item.asked Close [] ∷ [] ≡ script_items limit script) × ((left_of_it ≡ []) ⊎ ((limit < length script) × (left_of_it ≡ drop (limit + 1) script)))
-    reads_last left_of_it (next.Line start end) none same is over = absurd (false≢true over)
-    reads_last left_of_it next.LineTooLong none same is over = absurd (false≢true over)
-    reads_last left_of_it next.ScriptTooLong none same is over =
-        let all = reads_limit limit script rest left ended items so_far rest' is.0 is.1 is.2 in (all.0, inr (all.1, same is.3 ∙ all.2))
-    reads_last left_of_it next.End none same is over = (
-      ap (λ (s : List Item). s ++ item.asked Close [] ∷ []) (append-nil items) ∙ reads_all limit script rest left ended items so_far is.0,
-      inl (none is.1),
-    )
+  pub reads_last : (left_of_it : List ℕ) (found : Next) → (text_of then ≡ [] → left_of_it ≡ [])
+      → (then.place.end ≤ then.place.start → left_of_it ≡ text_of then) → IsNext now then found → is_last found ≡ true
+      → ((items ++ items_of_next then.room found) ++ item.asked Close [] ∷ [] ≡ script_items limit script)
+      × ((left_of_it ≡ []) ⊎ ((limit < length script) × (left_of_it ≡ drop (limit + 1) script)))
+  reads_last left_of_it (next.Line start end) none same is over = absurd (false≢true over)
+  reads_last left_of_it next.LineTooLong none same is over = absurd (false≢true over)
+  reads_last left_of_it next.ScriptTooLong none same is over =
+      let all = reads_limit limit script now items so_far then is.0 is.1 is.2 in (all.0, inr (all.1, same is.3 ∙ all.2))
+  reads_last left_of_it next.End none same is over = (
+    ap (λ (s : List Item). s ++ item.asked Close [] ∷ []) (append-nil items) ∙ reads_all limit script now items so_far is.0,
+    inl (none is.1),
+  )
 
-    pub reads_some : (found : Next) → IsNext room rest rest' left behind found
-        → (more : List Item) × ((items ++ items_of_next room found) ++ more ≡ script_items limit script)
-    reads_some (next.Line start end) is =
-        reads_front limit script rest' (allowance behind) behind.ended (items ++ items_of_next room (next.Line start end)) (reads_next (next.Line start end) is refl)
-    reads_some next.LineTooLong is =
-        reads_front limit script rest' (allowance behind) behind.ended (items ++ items_of_next room next.LineTooLong) (reads_next next.LineTooLong is refl)
-    reads_some next.ScriptTooLong is =
-        (item.asked Close [] ∷ [], (reads_last rest' next.ScriptTooLong (λ e. e) (λ _. refl) is refl).0)
-    reads_some next.End is =
-        (item.asked Close [] ∷ [], (reads_last rest' next.End (λ e. e) (λ _. refl) is refl).0)
+  pub reads_some : (found : Next) → IsNext now then found
+      → (more : List Item) × ((items ++ items_of_next then.room found) ++ more ≡ script_items limit script)
+  reads_some (next.Line start end) is =
+      reads_front limit script then (items ++ items_of_next then.room (next.Line start end)) (reads_next (next.Line start end) is refl)
+  reads_some next.LineTooLong is =
+      reads_front limit script then (items ++ items_of_next then.room next.LineTooLong) (reads_next next.LineTooLong is refl)
+  reads_some next.ScriptTooLong is =
+      (item.asked Close [] ∷ [], (reads_last (text_of then) next.ScriptTooLong (λ e. e) (λ _. refl) is refl).0)
+  reads_some next.End is =
+      (item.asked Close [] ∷ [], (reads_last (text_of then) next.End (λ e. e) (λ _. refl) is refl).0)
 
 -- what was legal over the file of a later world is so over that of the first
 legal_earlier : {S : Type 0} (shows : Ghosts S) (l : Layout) (start now : S) (es : List Entry)
@@ -121,8 +120,8 @@ legal_earlier shows l start now es keeps file legal = λ t.
 module _ {S : Type 0} (shows : Ghosts S) (l : Layout) (limit : ℕ) (start now between then : S)
     (begun room room' : List ℕ) (place behind : Place) (status : ℕ) (found : Next)
     (so_far : IsServing l limit (seen shows start) (seen shows now) begun room place status)
-    (is_next : Tells (seen shows start) → IsNext room' (pending room place ++ (shows.world now).script)
-    (pending room' behind ++ (shows.world between).script) (allowance place) behind found)
+    (is_next : Tells (seen shows start) → IsNext (held room place (shows.world now).script)
+    (held room' behind (shows.world between).script) found)
     (only : Tells (seen shows start) → OnlyTakes (shows.world now) (shows.world between))
     (still : shows.faults between ≡ shows.faults now)
   where
@@ -160,9 +159,8 @@ module _ {S : Type 0} (shows : Ghosts S) (l : Layout) (limit : ℕ) (start now b
 
         asked_some : Tells (seen shows start) → OfAFront limit (shows.world start).script all_entries
         asked_some told =
-            let some = reads_some limit (shows.world start).script (pending room place ++ (shows.world now).script)
-            (pending room' behind ++ (shows.world between).script) room' (allowance place)
-            place.ended (map item_of so_far.entries) behind (so_far.read told) found (is_next told) in
+            let some = reads_some limit (shows.world start).script (held room place (shows.world now).script)
+            (held room' behind (shows.world between).script) (map item_of so_far.entries) (so_far.read told) found (is_next told) in
             (some.0, ap (λ (s : List Item). s ++ some.0) all_asked ∙ some.1)
 
     -- a line was served, and more are to come
@@ -180,14 +178,12 @@ module _ {S : Type 0} (shows : Ghosts S) (l : Layout) (limit : ℕ) (start now b
       within = is;
       ended = λ told. subst (IsAtEnd behind) (sym (serves.only told).script) (at_end told);
       read = λ told.
-          subst (λ (items : List Item). IsReadUpTo limit (shows.world start).script (pending room' behind ++ (shows.world then).script)
-          (allowance behind) behind.ended items)
+          subst (IsReadUpTo limit (shows.world start).script (held room' behind (shows.world then).script))
           (sym (all_asked (Ok answer) serves))
-          (subst (λ (s : List ℕ). IsReadUpTo limit (shows.world start).script (pending room' behind ++ s) (allowance behind) behind.ended
+          (subst (λ (s : List ℕ). IsReadUpTo limit (shows.world start).script (held room' behind s)
           (map item_of so_far.entries ++ items_of_next room' found)) (sym (serves.only told).script)
-          (reads_next limit (shows.world start).script (pending room place ++ (shows.world now).script)
-          (pending room' behind ++ (shows.world between).script) room' (allowance place)
-          place.ended (map item_of so_far.entries) behind (so_far.read told) found (is_next told) going));
+          (reads_next limit (shows.world start).script (held room place (shows.world now).script)
+          (held room' behind (shows.world between).script) (map item_of so_far.entries) (so_far.read told) found (is_next told) going));
       files = keeps_then (Ok answer) serves;
       slot = file_then (Ok answer) serves;
       long = long ∙ so_far.long;
@@ -233,9 +229,8 @@ module _ {S : Type 0} (shows : Ghosts S) (l : Layout) (limit : ℕ) (start now b
             of_the_script : Tells (seen shows start) → OfTheScript limit (shows.world start).script (shows.world end).script every_entry
             unfolding every_entry all_entries
             of_the_script told =
-                let all = reads_last limit (shows.world start).script (pending room place ++ (shows.world now).script)
-                (pending room' behind ++ (shows.world between).script) room' (allowance place)
-                place.ended (map item_of so_far.entries) behind (so_far.read told) (shows.world end).script found
+                let all = reads_last limit (shows.world start).script (held room place (shows.world now).script)
+                (held room' behind (shows.world between).script) (map item_of so_far.entries) (so_far.read told) (shows.world end).script found
                 (λ none. (closes.only told).script ∙ (serves.only told).script ∙ none_behind (pending room' behind) (shows.world between).script none)
                 (λ empty. (closes.only told).script ∙ (serves.only told).script
                 ∙ sym (ap (λ (s : List ℕ). s ++ (shows.world between).script) (none_pending room' behind empty)))
@@ -288,7 +283,7 @@ module _ {S : Type 0} (shows : Ghosts S) (l : Layout) (limit : ℕ) (start now b
 pub is_unscripted : {S : Type 0} (shows : Ghosts S) (l : Layout) (limit : ℕ) (start now between : S) (begun room : List ℕ)
     (place : Place) (status : ℕ) → IsServing l limit (seen shows start) (seen shows now) begun room place status
     → (Tells (seen shows start)
-    → BreaksOff (allowance place) (pending room place ++ (shows.world now).script) (shows.world between).script)
+    → BreaksOff (allowance place) (text_of (held room place (shows.world now).script)) (shows.world between).script)
     → place.ended ≡ false → (Tells (seen shows start) → OnlyTakes (shows.world now) (shows.world between))
     → Raises Takes (shows.faults now) (shows.faults between)
     → ServesScript l limit (seen shows start) (seen shows between) stop.Unscripted
@@ -297,8 +292,7 @@ is_unscripted shows l limit start now between begun room place status so_far bro
   legal = so_far.legal;
   stops = (
     λ told.
-        let taken = reads_taken limit (shows.world start).script (pending room place ++ (shows.world now).script) (allowance place) place.ended
-        (map item_of so_far.entries) (so_far.read told) (shows.world between).script (broken told) going in
+        let taken = reads_taken limit (shows.world start).script (held room place (shows.world now).script) (map item_of so_far.entries) (so_far.read told) (shows.world between).script (broken told) going in
         record { taken = taken.0; split = taken.1; within = taken.2; asked = taken.3 },
     subst (SaysAll _ (seen shows start) (seen shows between)) so_far.said.asked
         (says_untaken (seen shows start) (seen shows now) (seen shows between) (λ t. t) so_far.entries [] status so_far.said
