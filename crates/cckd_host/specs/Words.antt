@@ -1,11 +1,11 @@
 -- The words behind a program's name, and what a run gets of them.
-use Rattle.std.specs.Prelude.{◌≡◌, ◌⊎◌, ◌<◌, ℕ, ◌+◌, nat_le, ◌&&◌, if◌then◌else◌, List, [], ◌∷◌, ◌++◌, length, take, drop, map, codes, Option, Some, None, Result, Ok, Err}
+use Rattle.std.specs.Prelude.{◌≡◌, ◌<◌, ℕ, ◌+◌, nat_le, ◌&&◌, if◌then◌else◌, List, [], ◌∷◌, ◌++◌, length, take, drop, map, codes, Option, Some, None, Result, Ok, Err}
 use Rattle.std.specs.Str.{is_utf8}
 use Rattle.std.specs.declared.env.FillError.{FillError}
 use Rattle.std.specs.declared.env.FillError.TheVariants.{NotPresent, TooLong}
 use Rattle.cckd_shelf.specs.Seen.{Seen}
-use Rattle.cckd_shelf.specs.Faults.{Rose}
-use Rattle.cckd_shelf.specs.Frame.{PutsAll, PutsSome}
+use Rattle.cckd_shelf.specs.Frame.{PutsSome}
+use Rattle.cckd_top.specs.Saying.{IsSaid, plain_text}
 
 -- a word as a run gets it: one that is no text, or has more than 255 bytes, may stand nowhere, and is made empty
 abbrev pub kept_word : List ℕ → List ℕ
@@ -30,9 +30,8 @@ IsKeptAt words number (Some text) = (word : List ℕ) × StandsAt word number wo
 abbrev pub no_memory_line : List ℕ
 no_memory_line = codes "no memory" ++ 10 ∷ []
 
--- A run with all these words, each in its place, explains the status. Or there was no memory for them: then that was put, or a
--- front of it and the count of failed puts rose, and nothing else was done, and the status is 8.
+-- A run with all these words, each in its place, explains the status. Or there was no memory for them: then that was said, as
+-- far as the output took it, and nothing else was done, and the status is 8.
 pub data IsRun (told : Type 0) (given : List (List ℕ)) (Explains : List (List ℕ) → Type 0) (old new : Seen) (status : ℕ) : Type 0 where
   with_words : (words : List (List ℕ)) → (told → words ≡ map kept_word given) → Explains words → IsRun told given Explains old new status
-  without_memory : PutsAll no_memory_line old new ⊎ (PutsSome no_memory_line old new × Rose old.faults.puts new.faults.puts) → status ≡ 8
-      → IsRun told given Explains old new status
+  without_memory : IsSaid (plain_text no_memory_line 8) old new status → PutsSome no_memory_line old new → IsRun told given Explains old new status

@@ -24,7 +24,7 @@ const NO_MEMORY: u8 = 8;
 /// Runs on this stage with the words of a source, and answers the status. Where there was no memory for the words, it says so.
 pub fn run_from<T: Stage, W: WordSource>(stage: T, alloc: Global, source: &W) -> (T, u8)
     ensures { IsRun W.tells (W.words source.now)
-        (λ words. IsExplained (seen T.Shows stage) (seen T.Shows result.0) words result.1)
+        (λ words. IsExplained words (seen T.Shows stage) (seen T.Shows result.0) result.1)
         (seen T.Shows stage) (seen T.Shows result.0) result.1 }
 {
     let mut stage = stage;

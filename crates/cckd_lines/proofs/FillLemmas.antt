@@ -9,8 +9,7 @@ use Rattle.cckd_lines.specs.declared.lines.Place.{Place}
 use Rattle.cckd_lines.specs.declared.lines.Next.TheVariants as next
 use Rattle.cckd_script.specs.Lines.{HasNoFeed}
 use Rattle.cckd_script.proofs.LineLemmas.{no_feed-append}
-use Rattle.cckd_lines.specs.Lines.{OnlyTakes}
-use Rattle.cckd_lines.specs.Lines.{IsFirstFeed, fed, last, Passes, IsPlace, IsAtEnd, Grows, TakesMore, BreaksOff, pending}
+use Rattle.cckd_lines.specs.Lines.{OnlyTakes, held, IsFirstFeed, fed, last, Passes, IsPlace, IsAtEnd, Grows, TakesMore, BreaksOff, pending}
 use Rattle.cckd_lines.proofs.FeedLemmas.{put_behind}
 
 pub only_takes_twice : (a b c : World) → OnlyTakes a b → OnlyTakes b c → OnlyTakes a c
@@ -22,7 +21,7 @@ pub took : (room into : List ℕ) (place after : Place) (script left : List ℕ)
     → take count into ≡ take count script → left ≡ drop count script
     → after.start ≡ place.start → after.end ≡ place.end + count
     → IsAtEnd after left
-    → TakesMore room (put_mid place.end k room into) place after script left
+    → TakesMore (held room place script) (held (put_mid place.end k room into) after left)
 took room into place after script left count k is fits same rest start end ended = record {
   rest =
       let p = place.end - place.start in
@@ -114,7 +113,7 @@ module _ (tells : Type 0) (old now then : World) (before after later : Faults) (
     (room room' : List ℕ) (so_far : IsPassing tells old now before after first place)
     (start : emptied.start ≡ 0) (end : emptied.end ≡ 0) (left : emptied.left ≡ place.left)
     (is : IsPlace room' taken) (grows : Grows emptied taken)
-    (more : tells → TakesMore room room' emptied taken now.script then.script)
+    (more : tells → TakesMore (held room emptied now.script) (held room' taken then.script))
   where
     -- all that was taken of the line
     passed_text : tells → now.script ≡ pending room' taken ++ then.script
@@ -138,7 +137,7 @@ module _ (tells : Type 0) (old now then : World) (before after later : Faults) (
 
     pub passes_feed : (behind : Place) (at : ℕ) → IsFirstFeed (pending room' taken) at → behind.start ≡ taken.start + at + 1
         → behind.end ≡ taken.end → behind.left ≡ taken.left → tells
-        → Passes old.script (pending room' behind ++ then.script) first.left behind next.LineTooLong
+        → Passes first.left old.script (held room' behind then.script) next.LineTooLong
     passes_feed behind at feed from to same told =
         let p = so_far.piece told in
         let seam : behind.start ≡ taken.start + (at + 1) = omega (arith, from) in
@@ -173,7 +172,7 @@ module _ (tells : Type 0) (old now then : World) (before after later : Faults) (
 
     pub passes_end : (behind : Place) → HasNoFeed (pending room' taken) → taken.ended ≡ true → behind.start ≡ taken.end
         → behind.end ≡ taken.end → behind.left ≡ taken.left → behind.ended ≡ taken.ended → tells
-        → Passes old.script (pending room' behind ++ then.script) first.left behind next.LineTooLong
+        → Passes first.left old.script (held room' behind then.script) next.LineTooLong
     passes_end behind none ended from to same goes told =
         let p = so_far.piece told in
         let long = length_pending room' taken is in
@@ -220,7 +219,7 @@ passes_none tells w f place going = record {
 pub passes_limit : (tells : Type 0) (old now then : World) (before after later : Faults) (first place : Place) (room : List ℕ)
     → IsPassing tells old now before after first place → place.left ≡ 0 → (tells → 0 < length now.script)
     → (tells → then.script ≡ drop 1 now.script)
-    → tells → (behind : Place) → behind.end ≤ behind.start → Passes old.script (pending room behind ++ then.script) first.left behind next.ScriptTooLong
+    → tells → (behind : Place) → behind.end ≤ behind.start → Passes first.left old.script (held room behind then.script) next.ScriptTooLong
 passes_limit tells old now then before after later first place room so_far none more one told behind empty =
     let p = so_far.piece told in
     let all : first.left ≡ length p.0 = omega (arith, p.3, none) in (

@@ -8,10 +8,9 @@ use Rattle.cckd_shelf.specs.World.{World}
 use Rattle.cckd_lines.specs.declared.lines.Place.{Place}
 use Rattle.cckd_lines.specs.declared.lines.Next.{Next}
 use Rattle.cckd_lines.specs.declared.lines.Next.TheVariants as next
-use Rattle.cckd_lines.specs.Lines.{IsFirstFeed, fed, last, IsLine, IsNext, Passes, line_next, IsPlace, IsAtEnd, Grows, TakesMore, BreaksOff, pending, allowance}
+use Rattle.cckd_lines.specs.Lines.{IsFirstFeed, fed, last, IsLine, IsNext, Passes, line_next, IsPlace, IsAtEnd, Grows, TakesMore, BreaksOff, OnlyTakes, held, text_of, pending, allowance}
 use Rattle.cckd_script.specs.Lines.{HasNoFeed, line_limit}
 use Rattle.cckd_script.proofs.LineLemmas.{no_feed-append}
-use Rattle.cckd_lines.specs.Lines.{OnlyTakes}
 use Rattle.cckd_lines.proofs.FillLemmas.{only_takes_twice, length_pending, pending_front, line_ends, none_pending}
 
 -- the room has the same of the script before it as at first, with more of it taken
@@ -43,7 +42,7 @@ module _ (tells : Type 0) (old now : World) (before after : Faults) (first place
   where
     pub fills_on : (then : World) (later : Faults) (moved taken : Place) (front room' : List ℕ)
         → pending front moved ≡ pending room place → moved ≡ record place { start = 0; end = place.end - place.start }
-        → IsPlace room' taken → Grows moved taken → (tells → TakesMore front room' moved taken now.script then.script)
+        → IsPlace room' taken → Grows moved taken → (tells → TakesMore (held front moved now.script) (held room' taken then.script))
         → place.ended ≡ false → (tells → OnlyTakes now then) → later ≡ after → length room' ≡ length room
         → IsFilling tells old then before later first taken begun room'
     fills_on then later moved taken front room' kept is within grows more going only_takes fine long = record {
@@ -70,8 +69,7 @@ module _ (tells : Type 0) (old now : World) (before after : Faults) (first place
 
     -- a line with its feed
     pub finds_line : (at : ℕ) → IsFirstFeed (pending room place) at → tells
-        → IsNext room (pending begun first ++ old.script) (pending room (record place { start = place.start + (at + 1) }) ++ now.script)
-        (allowance first) (record place { start = place.start + (at + 1) }) (line_next place.start at)
+        → IsNext (held begun first old.script) (held room (record place { start = place.start + (at + 1) }) now.script) (line_next place.start at)
     finds_line at feed told =
         let behind : Place = record place { start = place.start + (at + 1) } in
         let text = pending begun first ++ old.script in
@@ -84,27 +82,26 @@ module _ (tells : Type 0) (old now : World) (before after : Faults) (first place
         let spelled : text ≡ line ++ 10 ∷ rest =
         sym (so_far.same told) ∙ line_ends room place behind at now.script so_far.within feed refl refl in
         let sized : length line ≡ at = length-take-le at (pending room place) (omega (arith, feed.within)) in
-        let found : IsLine line text rest (allowance first) (allowance behind) place.ended = record {
+        let found : IsLine line (held begun first old.script) (held room behind now.script) = record {
           begins = fed feed.before spelled;
           some = omega (arith, ap length spelled, length-append line (10 ∷ rest));
           shared = omega (arith, ap length spelled, length-append line (10 ∷ rest), sized, so_far.shared, fits, left);
         } in
         ⊎_elim
         (λ (over : line_limit < at).
-        subst (IsNext room text rest (allowance first) behind) (sym (ap (λ (b : Bool). cond b next.LineTooLong (next.Line place.start (place.start + at))) (lt-ltb line_limit at over)))
+        subst (IsNext (held begun first old.script) (held room behind now.script)) (sym (ap (λ (b : Bool). cond b next.LineTooLong (next.Line place.start (place.start + at))) (lt-ltb line_limit at over)))
         (line, found, omega (arith, sized, over)))
         (λ (under : at ≤ line_limit).
-        subst (IsNext room text rest (allowance first) behind) (sym (ap (λ (b : Bool). cond b next.LineTooLong (next.Line place.start (place.start + at))) (le-ltb line_limit at under))) (
-          subst (λ (s : List ℕ). IsLine s text rest (allowance first) (allowance behind) place.ended) (sym (pending_front room place at (omega (arith, fits)))) found,
+        subst (IsNext (held begun first old.script) (held room behind now.script)) (sym (ap (λ (b : Bool). cond b next.LineTooLong (next.Line place.start (place.start + at))) (le-ltb line_limit at under))) (
+          subst (λ (s : List ℕ). IsLine s (held begun first old.script) (held room behind now.script)) (sym (pending_front room place at (omega (arith, fits)))) found,
           omega (arith, under),
         ))
         (cases_lt line_limit at)
 
     -- the last line, without a feed
     pub finds_last : HasNoFeed (pending room place) → place.ended ≡ true → 0 < place.end - place.start → tells
-        → IsNext room (pending begun first ++ old.script)
-        (pending room (record place { start = place.start + (place.end - place.start) }) ++ now.script)
-        (allowance first) (record place { start = place.start + (place.end - place.start) }) (line_next place.start (place.end - place.start))
+        → IsNext (held begun first old.script) (held room (record place { start = place.start + (place.end - place.start) }) now.script)
+        (line_next place.start (place.end - place.start))
     finds_last none ended some_there told =
         let len = place.end - place.start in
         let behind : Place = record place { start = place.start + len } in
@@ -117,18 +114,18 @@ module _ (tells : Type 0) (old now : World) (before after : Faults) (first place
         let empty : rest ≡ [] = ap (λ (s : List ℕ). s ++ now.script) nothing ∙ no_script in
         let spelled : text ≡ line =
         sym (so_far.same told) ∙ ap (λ (s : List ℕ). line ++ s) no_script ∙ append-nil line in
-        let found : IsLine line text rest (allowance first) (allowance behind) place.ended = record {
+        let found : IsLine line (held begun first old.script) (held room behind now.script) = record {
           begins = last none spelled empty ended;
           some = omega (arith, ap length spelled, sized, some_there);
           shared = omega (arith, ap length spelled, ap length empty, sized, so_far.shared, so_far.within.order);
         } in
         ⊎_elim
         (λ (over : line_limit < len).
-        subst (IsNext room text rest (allowance first) behind) (sym (ap (λ (b : Bool). cond b next.LineTooLong (next.Line place.start (place.start + len))) (lt-ltb line_limit len over)))
+        subst (IsNext (held begun first old.script) (held room behind now.script)) (sym (ap (λ (b : Bool). cond b next.LineTooLong (next.Line place.start (place.start + len))) (lt-ltb line_limit len over)))
         (line, found, omega (arith, sized, over)))
         (λ (under : len ≤ line_limit).
-        subst (IsNext room text rest (allowance first) behind) (sym (ap (λ (b : Bool). cond b next.LineTooLong (next.Line place.start (place.start + len))) (le-ltb line_limit len under))) (
-          subst (λ (s : List ℕ). IsLine s text rest (allowance first) (allowance behind) place.ended)
+        subst (IsNext (held begun first old.script) (held room behind now.script)) (sym (ap (λ (b : Bool). cond b next.LineTooLong (next.Line place.start (place.start + len))) (le-ltb line_limit len under))) (
+          subst (λ (s : List ℕ). IsLine s (held begun first old.script) (held room behind now.script))
               (ap (λ (n : ℕ). take n (drop place.start room)) (omega arith)) found,
           omega (arith, under),
         ))
@@ -136,7 +133,7 @@ module _ (tells : Type 0) (old now : World) (before after : Faults) (first place
 
     -- nothing more
     pub finds_end : place.ended ≡ true → place.end - place.start ≡ 0 → tells
-        → IsNext room (pending begun first ++ old.script) (pending room place ++ now.script) (allowance first) place next.End
+        → IsNext (held begun first old.script) (held room place now.script) next.End
     finds_end ended none told =
         let no_script : now.script ≡ [] = so_far.ended told ended in
         let nothing : pending room place ≡ [] = none_pending room place (omega (arith, none)) in
@@ -146,7 +143,7 @@ module _ (tells : Type 0) (old now : World) (before after : Faults) (first place
     -- the limit, with more of the script behind it
     pub finds_limit : (room' : List ℕ) (then : World) (behind : Place) → HasNoFeed (pending room place) → place.left ≡ 0 → (tells → 0 < length now.script)
         → (tells → then.script ≡ drop 1 now.script) → behind.end ≤ behind.start
-        → tells → IsNext room' (pending begun first ++ old.script) (pending room' behind ++ then.script) (allowance first) behind next.ScriptTooLong
+        → tells → IsNext (held begun first old.script) (held room' behind then.script) next.ScriptTooLong
     finds_limit room' then behind none full more one empty told =
         let text = pending begun first ++ old.script in
         let line = pending room place in
@@ -163,8 +160,8 @@ module _ (tells : Type 0) (old now : World) (before after : Faults) (first place
     -- the rest of a line that is too long
     pub finds_passed : (room' : List ℕ) (then : World) (behind : Place) (found : Next) → HasNoFeed (pending room place)
         → line_limit < place.end - place.start
-        → Passes now.script (pending room' behind ++ then.script) place.left behind found → tells
-        → IsNext room' (pending begun first ++ old.script) (pending room' behind ++ then.script) (allowance first) behind found
+        → Passes place.left now.script (held room' behind then.script) found → tells
+        → IsNext (held begun first old.script) (held room' behind then.script) found
     finds_passed room' then behind (next.Line start end) none long passes told = absurd passes
     finds_passed room' then behind next.End none long passes told = absurd passes
     finds_passed room' then behind next.LineTooLong none long passes told =
@@ -203,7 +200,7 @@ module _ (tells : Type 0) (old now : World) (before after : Faults) (first place
 
     -- the source fails, with nothing more taken
     pub breaks_off : (then : World) → HasNoFeed (pending room place) → (tells → then ≡ now) → tells
-        → BreaksOff (allowance first) (pending begun first ++ old.script) then.script
+        → BreaksOff (allowance first) (text_of (held begun first old.script)) then.script
     breaks_off then none kept told = (
       pending room place,
       none,
@@ -213,7 +210,7 @@ module _ (tells : Type 0) (old now : World) (before after : Faults) (first place
 
     -- the source fails in the rest of a line that is too long
     pub breaks_off_later : (then : World) → HasNoFeed (pending room place) → (tells → BreaksOff place.left now.script then.script) → tells
-        → BreaksOff (allowance first) (pending begun first ++ old.script) then.script
+        → BreaksOff (allowance first) (text_of (held begun first old.script)) then.script
     breaks_off_later then none broken told =
         let more = broken told in (
           pending room place ++ more.0,

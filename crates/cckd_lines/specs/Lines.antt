@@ -14,6 +14,19 @@ is_feed b = b == 10
 abbrev pub pending : List ℕ → Place → List ℕ
 pending room place = take (place.end - place.start) (drop place.start room)
 
+-- A room with what was taken of a script, the place in it, and what is left to take.
+pub record Held : Type 0 where
+  pub room : List ℕ
+  pub place : Place
+  pub script : List ℕ
+
+abbrev pub held : List ℕ → Place → List ℕ → Held
+held room place script = record { room = room; place = place; script = script }
+
+-- all that is ahead in it, from the start of the next line on
+abbrev pub text_of : Held → List ℕ
+text_of h = pending h.room h.place ++ h.script
+
 -- how many bytes from the start of the next line on are within the script's limit
 abbrev pub allowance : Place → ℕ
 allowance place = place.left + (place.end - place.start)
@@ -51,38 +64,38 @@ abbrev pub IsAtEnd : Place → List ℕ → Type 0
 IsAtEnd place script = place.ended ≡ true → script ≡ []
 
 -- what was taken more of a script stands behind what was pending
-pub record TakesMore (room room' : List ℕ) (place place' : Place) (script script' : List ℕ) : Type 0 where
-  pub rest : pending room' place' ++ script' ≡ pending room place ++ script
-  pub ended : IsAtEnd place' script'
+pub record TakesMore (old new : Held) : Type 0 where
+  pub rest : text_of new ≡ text_of old
+  pub ended : IsAtEnd new.place new.script
 
--- the next line of a text, from which so many bytes on are within the limit, and what is behind it
-pub record IsLine (line text rest : List ℕ) (before after : ℕ) (ended : Bool) : Type 0 where
-  pub begins : BeginsWith line text rest ended
-  pub some : 0 < length text
-  pub shared : before + length rest ≡ after + length text
+-- the next line of what was ahead, and what is ahead behind it
+pub record IsLine (line : List ℕ) (old new : Held) : Type 0 where
+  pub begins : BeginsWith line (text_of old) (text_of new) new.place.ended
+  pub some : 0 < length (text_of old)
+  pub shared : allowance old.place + length (text_of new) ≡ allowance new.place + length (text_of old)
 
 -- nothing is pending
 abbrev pub IsEmpty : Place → Type 0
 IsEmpty place = place.end ≤ place.start
 
--- What comes next in a text, and what is behind it. Of a script that is too long one byte past the limit was taken.
-abbrev pub IsNext : List ℕ → List ℕ → List ℕ → ℕ → Place → Next → Type 0
-IsNext room text rest before place (next.Line start end) =
-    IsLine (take (end - start) (drop start room)) text rest before (allowance place) place.ended × (end - start ≤ line_limit)
-IsNext room text rest before place next.LineTooLong =
-    (line : List ℕ) × IsLine line text rest before (allowance place) place.ended × (line_limit < length line)
-IsNext room text rest before place next.ScriptTooLong =
-    HasNoFeed (take before text) × (before < length text) × (rest ≡ drop (before + 1) text) × IsEmpty place
-IsNext room text rest before place next.End = (text ≡ []) × (rest ≡ []) × (allowance place ≡ before)
+-- What comes next, and what is ahead behind it. Of a script that is too long one byte past the limit was taken.
+abbrev pub IsNext : Held → Held → Next → Type 0
+IsNext old new (next.Line start end) = IsLine (take (end - start) (drop start new.room)) old new × (end - start ≤ line_limit)
+IsNext old new next.LineTooLong = (line : List ℕ) × IsLine line old new × (line_limit < length line)
+IsNext old new next.ScriptTooLong =
+    HasNoFeed (take (allowance old.place) (text_of old)) × (allowance old.place < length (text_of old))
+    × (text_of new ≡ drop (allowance old.place + 1) (text_of old)) × IsEmpty new.place
+IsNext old new next.End = (text_of old ≡ []) × (text_of new ≡ []) × (allowance new.place ≡ allowance old.place)
 
 -- the rest of a line that is too long is passed, or the limit and a byte behind it
-abbrev pub Passes : List ℕ → List ℕ → ℕ → Place → Next → Type 0
-Passes text rest before place (next.Line start end) = ⊥
-Passes text rest before place next.LineTooLong =
-    (line : List ℕ) × BeginsWith line text rest place.ended × (before + length rest ≡ allowance place + length text)
-Passes text rest before place next.ScriptTooLong =
-    HasNoFeed (take before text) × (before < length text) × (rest ≡ drop (before + 1) text) × IsEmpty place
-Passes text rest before place next.End = ⊥
+abbrev pub Passes : ℕ → List ℕ → Held → Next → Type 0
+Passes limit text new (next.Line start end) = ⊥
+Passes limit text new next.LineTooLong =
+    (line : List ℕ) × BeginsWith line text (text_of new) new.place.ended
+    × (limit + length (text_of new) ≡ allowance new.place + length text)
+Passes limit text new next.ScriptTooLong =
+    HasNoFeed (take limit text) × (limit < length text) × (text_of new ≡ drop (limit + 1) text) × IsEmpty new.place
+Passes limit text new next.End = ⊥
 
 -- a line of so many bytes in a room is handed out, or it is too long
 abbrev pub line_next : ℕ → ℕ → Next

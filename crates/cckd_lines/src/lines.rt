@@ -4,7 +4,7 @@ ghost use Rattle.std.specs.Prelude.{◌≡◌, ℕ, ◌+◌, ◌-◌, ◌<◌, �
 ghost use Rattle.cckd_shelf.specs.declared.fault.Kind.TheVariants.{Takes};
 ghost use Rattle.cckd_shelf.specs.Seen.{seen, Tells, Stays, Fails};
 ghost use Rattle.cckd_script.specs.Lines.{HasNoFeed};
-ghost use Rattle.cckd_lines.specs.Lines.{is_feed, IsFirstFeed, IsPlace, IsAtEnd, Grows, TakesMore, IsNext, Passes, LiesIn, IsShort, Advances, BreaksOff, OnlyTakes, pending, allowance, line_next};
+ghost use Rattle.cckd_lines.specs.Lines.{is_feed, IsFirstFeed, IsPlace, IsAtEnd, Grows, TakesMore, IsNext, Passes, LiesIn, IsShort, Advances, BreaksOff, OnlyTakes, held, text_of, pending, allowance, line_next};
 
 use cckd_script::LINE_LIMIT;
 use cckd_shelf::{Failed, Stage};
@@ -83,8 +83,8 @@ fn take_more<T: Stage>(
     requires going_on { place.ended ≡ false }
     ensures place { IfOk result (λ taken. IfSome taken (IsPlace room.new)) }
     ensures grows { IfOk result (λ taken. IfSome taken (Grows place)) }
-    ensures takes { Tells (seen T.Shows stage.old) → IfOk result (λ taken. IfSome taken (λ after. TakesMore room.old room.new place after
-        (seen T.Shows stage.old).world.script (seen T.Shows stage.new).world.script)) }
+    ensures takes { Tells (seen T.Shows stage.old) → IfOk result (λ taken. IfSome taken (λ after.
+        TakesMore (held room.old place (seen T.Shows stage.old).world.script) (held room.new after (seen T.Shows stage.new).world.script))) }
     ensures front { IfOk result (λ taken. IfSome taken (λ after.
         take (place.end - place.start) (pending room.new after) ≡ pending room.old place)) }
     ensures past { IfOk result (λ taken. IfNone taken (place.left ≡ 0)) }
@@ -125,8 +125,8 @@ fn pass_line<T: Stage>(
     requires going_on { place.ended ≡ false }
     ensures place { IfOk result (λ found. IsPlace room.new found.1) }
     ensures ended { Tells (seen T.Shows stage.old) → IfOk result (λ found. IsAtEnd found.1 (seen T.Shows stage.new).world.script) }
-    ensures passes { Tells (seen T.Shows stage.old) → IfOk result (λ found. Passes (seen T.Shows stage.old).world.script
-        (pending room.new found.1 ++ (seen T.Shows stage.new).world.script) place.left found.1 found.0) }
+    ensures passes { Tells (seen T.Shows stage.old) → IfOk result (λ found. Passes place.left (seen T.Shows stage.old).world.script
+        (held room.new found.1 (seen T.Shows stage.new).world.script) found.0) }
     ensures lies { IfOk result (λ found. LiesIn room.new found.0) }
     ensures short { IfOk result (λ found. IsShort found.0) }
     ensures left { IfOk result (λ found. allowance found.1 ≤ place.left) }
@@ -198,13 +198,13 @@ pub fn next_line<T: Stage>(
     ensures place { IfOk result (λ found. IsPlace room.new found.1) }
     ensures room { length room.new ≡ length room.old }
     ensures ended { Tells (seen T.Shows stage.old) → IfOk result (λ found. IsAtEnd found.1 (seen T.Shows stage.new).world.script) }
-    ensures next { Tells (seen T.Shows stage.old) → IfOk result (λ found. IsNext room.new (pending room.old place ++ (seen T.Shows stage.old).world.script)
-        (pending room.new found.1 ++ (seen T.Shows stage.new).world.script) (allowance place) found.1 found.0) }
+    ensures next { Tells (seen T.Shows stage.old) → IfOk result (λ found. IsNext (held room.old place (seen T.Shows stage.old).world.script)
+        (held room.new found.1 (seen T.Shows stage.new).world.script) found.0) }
     ensures lies { IfOk result (λ found. LiesIn room.new found.0) }
     ensures short { IfOk result (λ found. IsShort found.0) }
     ensures advances { IfOk result (λ found. Advances (allowance place) (allowance found.1) found.0) }
     ensures broken { Tells (seen T.Shows stage.old) → OnErr result
-        (BreaksOff (allowance place) (pending room.old place ++ (seen T.Shows stage.old).world.script) (seen T.Shows stage.new).world.script) }
+        (BreaksOff (allowance place) (text_of (held room.old place (seen T.Shows stage.old).world.script)) (seen T.Shows stage.new).world.script) }
     ensures going_on { OnErr result (place.ended ≡ false) }
     ensures only { Tells (seen T.Shows stage.old) → OnlyTakes (seen T.Shows stage.old).world (seen T.Shows stage.new).world }
     ensures fails { Fails Takes result (seen T.Shows stage.old) (seen T.Shows stage.new) }

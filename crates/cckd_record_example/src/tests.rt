@@ -1,4 +1,7 @@
-use crate::update;
+ghost use Rattle.std.specs.Prelude.{◌+◌, ◌^◌, ◌<◌, ◌≤◌, IfOk};
+ghost use Rattle.cckd_record_example.specs.Versions.{IsFit};
+
+use crate::{Version, store, update, update_all};
 use cckd_memory::{Bytes, FileIn, MemoryStage, Op, image_of};
 use cckd_shelf::{Shelf, Slot};
 use std::alloc::Global;
@@ -34,7 +37,8 @@ fn read_value(file: &[u8]) -> Option<u8> {
     }
 }
 
-fn updated(alloc: Global, file: &[u8]) -> Result<MemoryStage, Fail> {
+/// A stage whose slot 0 has this file.
+fn bound(alloc: Global, file: &[u8]) -> Result<MemoryStage, Fail> {
     let mut files = Vec::new(alloc);
     files.push(FileIn {
         name: Bytes::of(alloc, b"v")?,
@@ -43,6 +47,12 @@ fn updated(alloc: Global, file: &[u8]) -> Result<MemoryStage, Fail> {
     let mut stage = MemoryStage::new(alloc, &files, b"", &[])?;
     let slot = Slot::new(0).ok_or("no slot")?;
     stage.bind(slot, "v")?;
+    Ok(stage)
+}
+
+fn updated(alloc: Global, file: &[u8]) -> Result<MemoryStage, Fail> {
+    let mut stage = bound(alloc, file)?;
+    let slot = Slot::new(0).ok_or("no slot")?;
     update(&mut stage, slot, NEW_PLACE, &[b'b'; 600])?;
     Ok(stage)
 }
@@ -73,5 +83,58 @@ fn a_stop_leaves_the_old_value_or_the_new_one(rt: HostRuntime) -> Result<(), Fai
     for choice in choices {
         assert_eq!(rt; left(rt.alloc(), &file, ops, choice)?, Some(b'b'));
     }
+    Ok(())
+}
+
+/// A version of 600 equal bytes.
+fn version(alloc: Global, place: u64, byte: u8) -> Result<Version, Fail>
+    requires behind { 8 ≤ place }
+    requires room { place + 600 < 2 ^ 63 }
+    ensures { IfOk result IsFit }
+{
+    Ok(Version {
+        place,
+        value: vec![in alloc; byte; 600]?,
+    })
+}
+
+#[test]
+fn a_version_follows_another(rt: HostRuntime) -> Result<(), Fail> {
+    let alloc = rt.alloc();
+    let file = old_file(alloc)?;
+    let mut stage = bound(alloc, &file)?;
+    let slot = Slot::new(0).ok_or("no slot")?;
+    let first = version(alloc, NEW_PLACE, b'b')?;
+    let second = version(alloc, OLD_PLACE, b'c')?;
+    update_all(&mut stage, slot, &[first, second])?;
+    let ops = stage.ops();
+    assert_eq!(rt; ops.len(), 8);
+    // Record, sync, entry and sync of each; all that is open is made.
+    let values = [b'a', b'a', b'a', b'b', b'b', b'b', b'b', b'c'];
+    for made in 0..ops.len() {
+        let value = values.get(made).ok_or("no value")?;
+        assert_eq!(rt;
+            left(alloc, &file, &ops[..made], &[1])?,
+            Some(*value),
+            "{made}"
+        );
+    }
+    assert_eq!(rt; left(alloc, &file, ops, &[])?, Some(b'c'));
+    Ok(())
+}
+
+#[test]
+fn stored_bytes_are_read_back(rt: HostRuntime) -> Result<(), Fail> {
+    let alloc = rt.alloc();
+    let mut stage = bound(alloc, b"longer than what is stored")?;
+    let slot = Slot::new(3).ok_or("no slot")?;
+    store(&mut stage, slot, "w", b"stored")?;
+    let len = stage.len(slot)?;
+    assert_eq!(rt; len, 6);
+    let mut bytes = vec![in alloc; 0; len as usize]?;
+    stage.read(slot, 0, bytes.as_mut_slice())?;
+    assert_eq!(rt; bytes.as_slice(), b"stored".as_slice());
+    let image = image_of(alloc, b"", stage.ops(), slot, &[])?;
+    assert_eq!(rt; image.as_slice(), b"stored".as_slice());
     Ok(())
 }

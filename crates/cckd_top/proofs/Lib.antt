@@ -1,4 +1,6 @@
 pub mod WorldLemmas
+pub mod CountLemmas
+pub mod SayingLemmas
 pub mod NameLemmas
 pub mod ReplyLemmas
 pub mod ServingLemmas

@@ -7,13 +7,14 @@ use Rattle.cckd_base.specs.Survey.{misfits}
 use Rattle.cckd_tables.specs.Scan.{first_misfit}
 use Rattle.cckd_shelf.specs.declared.fault.Faults.{Faults}
 use Rattle.cckd_shelf.specs.Events.{Event, Synced}
-use Rattle.cckd_shelf.specs.Faults.{NoneFell}
+use Rattle.cckd_shelf.specs.declared.shows.Shows.{Ghosts}
+use Rattle.cckd_shelf.specs.Seen.{Seen, seen, Tells}
 use Rattle.cckd_shelf.specs.World.{World, IsSure, IsTied, file_of, held_by, after_sync}
 use Rattle.cckd_top.specs.declared.halt.Halt.{Halt}
 use Rattle.cckd_top.specs.declared.halt.Halt.TheVariants as halt
-use Rattle.cckd_top.specs.Opening.{bad_header, has_misfit, not_yet, ready, opening_by, opening_of, base_fault, file_layout, IsBase, HasBaseCause}
-use Rattle.cckd_top.specs.Run.{HasHaltCause, HaltMakes, IsBaseSync, opening_in}
-use Rattle.cckd_top.specs.World.{OnlyMakes, MakesSome, AreNamed, has_shadow, holds_shadow}
+use Rattle.cckd_top.specs.Opening.{bad_header, has_misfit, not_yet, ready, opening_by, opening_of, base_fault, file_layout, IsBase, IsBaseCause, HaltRaises, CountsHalt}
+use Rattle.cckd_top.specs.Run.{IsHaltCause, HaltMakes, IsBaseSync, opening_in}
+use Rattle.cckd_top.specs.World.{TellsFiles, OnlyMakes, MakesSome, AreNamed, has_shadow, holds_shadow}
 use Rattle.cckd_top.proofs.WorldLemmas.{only_makes_twice, intact_at_sync}
 use Rattle.cckd_shelf.proofs.WorldLemmas.{tied_slot}
 use Rattle.cckd_top.proofs.ShadowLemmas.{shadows_are_held}
@@ -49,21 +50,18 @@ module _ (tells : Type 0) (old now : World) (name : List ℕ) (disk : IsNamedDis
   synced told = record { ops = Synced 0 ∷ []; are = refl; makes = disk.makes told }
 
   -- a base that isn't opened was synced
-  synced_at : (told : Type 0) (file : List ℕ) (before after : Faults) (why : Halt) → HasBaseCause told file before after why
-      → HaltMakes why (Synced 0 ∷ [])
-  synced_at told file before after (halt.BadWords n) cause = absurd cause
-  synced_at told file before after halt.ReadFault cause = inr refl
-  synced_at told file before after halt.SyncFault cause = absurd cause
-  synced_at told file before after halt.Memory cause = refl
-  synced_at told file before after (halt.BadHeader fault) cause = refl
-  synced_at told file before after (halt.HasMisfit misfit) cause = refl
-  synced_at told file before after halt.NotYet cause = absurd cause
+  synced_at : (s : Seen) (why : Halt) → IsBaseCause s why → HaltMakes why (Synced 0 ∷ [])
+  synced_at s (halt.BadWords n) cause = absurd cause
+  synced_at s halt.ReadFault cause = inr refl
+  synced_at s halt.SyncFault cause = absurd cause
+  synced_at s halt.Memory cause = refl
+  synced_at s (halt.BadHeader fault) cause = refl
+  synced_at s (halt.HasMisfit misfit) cause = refl
+  synced_at s halt.NotYet cause = absurd cause
 
-  pub halt_makes : {T : Type 0} (told : Type 0) (file : List ℕ) (before after : Faults) (r : Result T Halt)
-      → IfErr r (HasBaseCause told file before after) → tells → IfErr r (λ why. MakesSome (HaltMakes why) old now)
-  halt_makes told file before after (Ok x) cause tell = tt
-  halt_makes told file before after (Err why) cause tell =
-      record { ops = Synced 0 ∷ []; are = synced_at told file before after why cause; makes = disk.makes tell }
+  pub halt_makes : {X : Type 0} (s : Seen) (r : Result X Halt) → IfErr r (IsBaseCause s) → tells → IfErr r (λ why. MakesSome (HaltMakes why) old now)
+  halt_makes s (Ok x) cause tell = tt
+  halt_makes s (Err why) cause tell = record { ops = Synced 0 ∷ []; are = synced_at s why cause; makes = disk.makes tell }
 
 -- a halt before the sync
 pub idle_makes : (may : List Event → Type 0) (old now : World) → may [] → OnlyMakes [] old now → MakesSome may old now
@@ -124,24 +122,35 @@ opens_not_yet w name file l above same is found some =
     (opening_not_yet_by (base_fault file) (misfits (file_layout file) file) (has_shadow w name 8) (file_layout file) is.headed.sound (no_misfits file l is) (sym found ∙ some))
 
 -- why the base isn't opened is why the disk isn't mounted
-halts_by_base : (told later : Type 0) (w : World) (name file : List ℕ) (first before after : Faults) (why : Halt)
-    → (told → later) → (told → file ≡ held_by w name) → NoneFell first before → HasBaseCause later file before after why
-    → HasHaltCause told w name first after why
-halts_by_base told later w name file first before after (halt.BadWords n) knows same fell cause = cause
-halts_by_base told later w name file first before after halt.ReadFault knows same fell cause = omega (arith, cause, fell.reads)
-halts_by_base told later w name file first before after halt.SyncFault knows same fell cause = absurd cause
-halts_by_base told later w name file first before after halt.Memory knows same fell cause = tt
-halts_by_base told later w name file first before after (halt.BadHeader fault) knows same fell cause = λ t.
-    subst (λ (f : List ℕ). opening_of f (has_shadow w name 8) ≡ bad_header fault) (same t)
-    (opening_header_by (base_fault file) (misfits (file_layout file) file) (has_shadow w name 8) (file_layout file) fault (cause (knows t)))
-halts_by_base told later w name file first before after (halt.HasMisfit misfit) knows same fell cause = λ t.
-    subst (λ (f : List ℕ). opening_of f (has_shadow w name 8) ≡ has_misfit misfit) (same t)
-    (opening_misfit_by (base_fault file) (misfits (file_layout file) file) (has_shadow w name 8) (file_layout file) misfit (cause (knows t)).0 (cause (knows t)).1)
-halts_by_base told later w name file first before after halt.NotYet knows same fell cause = absurd cause
+module _ {S : Type 0} (shows : Ghosts S) (start synced : S) (name : List ℕ)
+    (knows : TellsFiles (seen shows start) → IsSure (shows.world synced))
+    (same : Tells (seen shows start) → file_of (shows.world synced) 0 ≡ held_by (shows.world start) name)
+  where
+    shadow : Bool
+    shadow = has_shadow (shows.world start) name 8
 
-pub halts : {T : Type 0} (told later : Type 0) (w : World) (name file : List ℕ) (first before after : Faults) (r : Result T Halt)
-    → (told → later) → (told → file ≡ held_by w name) → NoneFell first before → IfErr r (HasBaseCause later file before after)
-    → IfErr r (HasHaltCause told w name first after)
-halts told later w name file first before after (Ok x) knows same fell cause = tt
-halts told later w name file first before after (Err why) knows same fell cause =
-    halts_by_base told later w name file first before after why knows same fell cause
+    halts_by_base : (why : Halt) → IsBaseCause (seen shows synced) why → IsHaltCause name (seen shows start) why
+    unfolding shadow
+    halts_by_base (halt.BadWords n) cause = cause
+    halts_by_base halt.ReadFault cause = tt
+    halts_by_base halt.SyncFault cause = absurd cause
+    halts_by_base halt.Memory cause = tt
+    halts_by_base (halt.BadHeader fault) cause = λ t.
+        let file = file_of (shows.world synced) 0 in
+        subst (λ (f : List ℕ). opening_of f shadow ≡ bad_header fault) (same t.0)
+        (opening_header_by (base_fault file) (misfits (file_layout file) file) shadow (file_layout file) fault (cause (t.0, knows t)))
+    halts_by_base (halt.HasMisfit misfit) cause = λ t.
+        let file = file_of (shows.world synced) 0 in
+        let is = cause (t.0, knows t) in
+        subst (λ (f : List ℕ). opening_of f shadow ≡ has_misfit misfit) (same t.0)
+        (opening_misfit_by (base_fault file) (misfits (file_layout file) file) shadow (file_layout file) misfit is.headed is.first)
+    halts_by_base halt.NotYet cause = absurd cause
+
+    pub halts : {X : Type 0} (r : Result X Halt) → IfErr r (IsBaseCause (seen shows synced)) → IfErr r (IsHaltCause name (seen shows start))
+    halts (Ok x) cause = tt
+    halts (Err why) cause = halts_by_base why cause
+
+-- calls that were Ok before it change nothing of what a halt counts
+pub counts_behind : {X : Type 0} (r : Result X Halt) (a b c : Seen) → b.faults ≡ a.faults → CountsHalt r b c → CountsHalt r a c
+counts_behind (Ok x) a b c same h = h ∙ same
+counts_behind (Err why) a b c same h = subst (λ (f : Faults). HaltRaises why f c.faults) same h

@@ -1,5 +1,5 @@
 -- A script that is served line by line: what was asked of it so far, and what is left.
-use Rattle.std.proofs.Common.{◌≡◌, ◌⊎◌, inl, inr, ⊎_elim, ℕ, ◌+◌, ◌<◌, ◌≤◌, nat_lt, Bool, true, false, List, [], ◌∷◌, ◌++◌, length, take, drop, refl, sym, ◌∙◌, ap, arith, append-nil, append_assoc, length-append}
+use Rattle.std.proofs.Common.{◌≡◌, ◌⊎◌, inl, inr, ⊎_elim, ℕ, ◌+◌, ◌<◌, ◌≤◌, nat_lt, true, false, List, [], ◌∷◌, ◌++◌, length, take, drop, refl, sym, ◌∙◌, ap, arith, append-nil, append_assoc, length-append}
 use Rattle.std.proofs.lemmas.Bool.{cases_lt, lt-ltb, le-ltb, cond-true, cond-false, false≢true}
 use Rattle.std.proofs.lemmas.Grind.{flat_map-append}
 use Rattle.std.proofs.Math.Seq.{take-append-add, drop-append-add}
@@ -8,40 +8,40 @@ use Rattle.cckd_script.specs.declared.misread.Misreading.TheVariants as misreadi
 use Rattle.cckd_script.specs.Lines.{lines_of, ended_lines, StopsAtLine, HasNoFeed}
 use Rattle.cckd_script.specs.Items.{Item, asked, unread, line_items, items_of_lines, cut_items, script_items}
 use Rattle.cckd_script.proofs.LineLemmas.{lines-append, ended-append, ended_all, stops_more, lines_more, lines_unfed, ended_unfed}
-use Rattle.cckd_lines.specs.Lines.{fed, last, IsLine, BreaksOff}
+use Rattle.cckd_lines.specs.Lines.{fed, last, Held, held, text_of, allowance, IsLine, BreaksOff}
 
--- A script was served up to here: these items are those of the lines before, and this is left of it, of which so many bytes are
--- within the limit. A line without a feed was the last.
-pub record IsReadUpTo (limit : ℕ) (script rest : List ℕ) (left : ℕ) (ended : Bool) (items : List Item) : Type 0 where
+-- A script was served up to here: these items are those of the lines before, and this is left of it. A line without a feed was
+-- the last.
+pub record IsReadUpTo (limit : ℕ) (script : List ℕ) (now : Held) (items : List Item) : Type 0 where
   pub consumed : List ℕ
-  pub split : script ≡ consumed ++ rest
-  pub allowed : length consumed + left ≡ limit
+  pub split : script ≡ consumed ++ text_of now
+  pub allowed : length consumed + allowance now.place ≡ limit
   pub asked : items ≡ items_of_lines (lines_of consumed)
-  pub stops : StopsAtLine consumed ⊎ ((rest ≡ []) × (ended ≡ true))
+  pub stops : StopsAtLine consumed ⊎ ((text_of now ≡ []) × (now.place.ended ≡ true))
 
 -- nothing was served
-pub reads_none : (limit : ℕ) (script : List ℕ) → IsReadUpTo limit script script limit false []
-reads_none limit script = record { consumed = []; split = refl; allowed = omega arith; asked = refl; stops = inl (inl refl) }
+pub reads_none : (limit : ℕ) (script room : List ℕ)
+    → IsReadUpTo limit script (held room (record { start = 0; end = 0; left = limit; ended = false }) script) []
+reads_none limit script room = record { consumed = []; split = refl; allowed = omega arith; asked = refl; stops = inl (inl refl) }
 
 items_push : (lines : List (List ℕ)) (line : List ℕ) → items_of_lines (lines ++ line ∷ []) ≡ items_of_lines lines ++ line_items line
 items_push lines line = flat_map-append line_items lines (line ∷ []) ∙ ap (λ (s : List Item). items_of_lines lines ++ s) (append-nil (line_items line))
 
-module _ (limit : ℕ) (script rest : List ℕ) (left : ℕ) (ended : Bool) (items : List Item) (so_far : IsReadUpTo limit script rest left ended items) where
-  stops_here : 0 < length rest → StopsAtLine so_far.consumed
+module _ (limit : ℕ) (script : List ℕ) (now : Held) (items : List Item) (so_far : IsReadUpTo limit script now items) where
+  stops_here : 0 < length (text_of now) → StopsAtLine so_far.consumed
   stops_here some = ⊎_elim (λ (h : StopsAtLine so_far.consumed). h)
-      (λ (h : (rest ≡ []) × (ended ≡ true)). absurd (omega (arith, some, ap length h.0))) so_far.stops
+      (λ (h : ((text_of now) ≡ []) × (now.place.ended ≡ true)). absurd (omega (arith, some, ap length h.0))) so_far.stops
 
   -- a line more
-  pub reads_on : (line rest' : List ℕ) (left' : ℕ) (ended' : Bool) → IsLine line rest rest' left left' ended'
-      → IsReadUpTo limit script rest' left' ended' (items ++ line_items line)
-  reads_on line rest' left' ended' found =
+  pub reads_on : (line : List ℕ) (then : Held) → IsLine line now then → IsReadUpTo limit script then (items ++ line_items line)
+  reads_on line then found =
       let stops = stops_here found.some in
       elim found.begins [
         | fed free is ↦ record {
           consumed = so_far.consumed ++ (line ++ 10 ∷ []);
           split =
-              so_far.split ∙ ap (λ (s : List ℕ). so_far.consumed ++ s) (is ∙ sym (append_assoc line (10 ∷ []) rest'))
-              ∙ sym (append_assoc so_far.consumed (line ++ 10 ∷ []) rest');
+              so_far.split ∙ ap (λ (s : List ℕ). so_far.consumed ++ s) (is ∙ sym (append_assoc line (10 ∷ []) (text_of then)))
+              ∙ sym (append_assoc so_far.consumed (line ++ 10 ∷ []) (text_of then));
           allowed =
               omega (
                 arith,
@@ -49,7 +49,7 @@ module _ (limit : ℕ) (script rest : List ℕ) (left : ℕ) (ended : Bool) (ite
                 found.shared,
                 length-append so_far.consumed (line ++ 10 ∷ []),
                 length-append line (10 ∷ []),
-                length-append line (10 ∷ rest'),
+                length-append line (10 ∷ (text_of then)),
                 ap length is,
               );
           asked =
@@ -72,7 +72,7 @@ module _ (limit : ℕ) (script rest : List ℕ) (left : ℕ) (ended : Bool) (ite
       ]
 
   -- the whole script
-  pub reads_all : rest ≡ [] → items ++ asked Close [] ∷ [] ≡ script_items limit script
+  pub reads_all : (text_of now) ≡ [] → items ++ asked Close [] ∷ [] ≡ script_items limit script
   reads_all none =
       let whole : script ≡ so_far.consumed = so_far.split ∙ ap (λ (s : List ℕ). so_far.consumed ++ s) none ∙ append-nil so_far.consumed in
       let short : length script ≤ limit = omega (arith, ap length whole, so_far.allowed) in
@@ -82,17 +82,17 @@ module _ (limit : ℕ) (script rest : List ℕ) (left : ℕ) (ended : Bool) (ite
       )
 
   -- the script up to its limit
-  pub reads_limit : (rest' : List ℕ) → HasNoFeed (take left rest) → left < length rest → rest' ≡ drop (left + 1) rest
+  pub reads_limit : (then : Held) → HasNoFeed (take (allowance now.place) (text_of now)) → (allowance now.place) < length (text_of now) → (text_of then) ≡ drop ((allowance now.place) + 1) (text_of now)
       → ((items ++ unread misreading.ScriptTooLong ∷ []) ++ asked Close [] ∷ [] ≡ script_items limit script) × (limit < length script)
-      × (rest' ≡ drop (limit + 1) script)
-  reads_limit rest' free more one =
+      × ((text_of then) ≡ drop (limit + 1) script)
+  reads_limit then free more one =
       let stops = stops_here (omega (arith, more)) in
-      let long : limit < length script = omega (arith, so_far.allowed, ap length so_far.split, length-append so_far.consumed rest, more) in
-      let front : take limit script ≡ so_far.consumed ++ take left rest =
-      ap (λ (n : ℕ). take n script) (sym so_far.allowed) ∙ ap (take (length so_far.consumed + left)) so_far.split
-      ∙ take-append-add so_far.consumed rest left in
+      let long : limit < length script = omega (arith, so_far.allowed, ap length so_far.split, length-append so_far.consumed (text_of now), more) in
+      let front : take limit script ≡ so_far.consumed ++ take (allowance now.place) (text_of now) =
+      ap (λ (n : ℕ). take n script) (sym so_far.allowed) ∙ ap (take (length so_far.consumed + (allowance now.place))) so_far.split
+      ∙ take-append-add so_far.consumed (text_of now) (allowance now.place) in
       let lines : ended_lines (take limit script) ≡ lines_of so_far.consumed =
-      ap ended_lines front ∙ ended_unfed so_far.consumed (take left rest) stops free in
+      ap ended_lines front ∙ ended_unfed so_far.consumed (take (allowance now.place) (text_of now)) stops free in
       let items_are : items ≡ items_of_lines (ended_lines (take limit script)) = so_far.asked ∙ ap items_of_lines (sym lines) in (
         ap (λ (s : List Item). s ++ asked Close [] ∷ []) (
             ap (λ (s : List Item). s ++ unread misreading.ScriptTooLong ∷ []) items_are
@@ -100,17 +100,17 @@ module _ (limit : ℕ) (script rest : List ℕ) (left : ℕ) (ended : Bool) (ite
             ),
         long,
         one ∙ sym (
-            ap (λ (n : ℕ). drop n script) (omega (arith, so_far.allowed)) ∙ ap (drop (length so_far.consumed + (left + 1))) so_far.split
-            ∙ drop-append-add so_far.consumed rest (left + 1)
+            ap (λ (n : ℕ). drop n script) (omega (arith, so_far.allowed)) ∙ ap (drop (length so_far.consumed + ((allowance now.place) + 1))) so_far.split
+            ∙ drop-append-add so_far.consumed (text_of now) ((allowance now.place) + 1)
             ),
       )
 
-  -- the lines that ended in what was taken
-  pub reads_taken : (script' : List ℕ) → BreaksOff left rest script' → ended ≡ false
+  -- the lines that now.place.ended in what was taken
+  pub reads_taken : (script' : List ℕ) → BreaksOff (allowance now.place) (text_of now) script' → now.place.ended ≡ false
       → (taken : List ℕ) × (script ≡ taken ++ script') × (length taken ≤ limit) × (items ≡ items_of_lines (ended_lines taken))
   reads_taken script' broken going =
       let stops : StopsAtLine so_far.consumed = ⊎_elim (λ (h : StopsAtLine so_far.consumed). h)
-      (λ (h : (rest ≡ []) × (ended ≡ true)). absurd (false≢true (sym going ∙ h.1))) so_far.stops in (
+      (λ (h : ((text_of now) ≡ []) × (now.place.ended ≡ true)). absurd (false≢true (sym going ∙ h.1))) so_far.stops in (
         so_far.consumed ++ broken.0,
         so_far.split ∙ ap (λ (s : List ℕ). so_far.consumed ++ s) broken.2 ∙ sym (append_assoc so_far.consumed broken.0 script'),
         omega (arith, so_far.allowed, length-append so_far.consumed broken.0, broken.3),
@@ -123,27 +123,27 @@ module _ (limit : ℕ) (script rest : List ℕ) (left : ℕ) (ended : Bool) (ite
       ap (λ (s : List Item). s ++ asked Close [] ∷ []) (cond-false (nat_lt limit (length script)) (cut_items limit script) _ (le-ltb limit (length script) short)) in
       ⊎_elim
       (λ (stops : StopsAtLine so_far.consumed). (
-        items_of_lines (lines_of rest) ++ asked Close [] ∷ [],
-        sym (append_assoc items (items_of_lines (lines_of rest)) (asked Close [] ∷ []))
+        items_of_lines (lines_of (text_of now)) ++ asked Close [] ∷ [],
+        sym (append_assoc items (items_of_lines (lines_of (text_of now))) (asked Close [] ∷ []))
             ∙ ap (λ (s : List Item). s ++ asked Close [] ∷ []) (
-            ap (λ (s : List Item). s ++ items_of_lines (lines_of rest)) so_far.asked
-            ∙ sym (flat_map-append line_items (lines_of so_far.consumed) (lines_of rest))
-            ∙ ap items_of_lines (sym (ap lines_of so_far.split ∙ lines-append so_far.consumed rest stops))
+            ap (λ (s : List Item). s ++ items_of_lines (lines_of (text_of now))) so_far.asked
+            ∙ sym (flat_map-append line_items (lines_of so_far.consumed) (lines_of (text_of now)))
+            ∙ ap items_of_lines (sym (ap lines_of so_far.split ∙ lines-append so_far.consumed (text_of now) stops))
             ) ∙ sym whole,
       ))
-      (λ (h : (rest ≡ []) × (ended ≡ true)). (asked Close [] ∷ [], reads_all h.0))
+      (λ (h : ((text_of now) ≡ []) × (now.place.ended ≡ true)). (asked Close [] ∷ [], reads_all h.0))
       so_far.stops
 
   front_long : limit < length script → (more : List Item) × (items ++ more ≡ script_items limit script)
   front_long long =
-      let stops = stops_here (omega (arith, so_far.allowed, ap length so_far.split, length-append so_far.consumed rest, long)) in
-      let front : take limit script ≡ so_far.consumed ++ take left rest =
-      ap (λ (n : ℕ). take n script) (sym so_far.allowed) ∙ ap (take (length so_far.consumed + left)) so_far.split
-      ∙ take-append-add so_far.consumed rest left in
-      let tail = items_of_lines (ended_lines (take left rest)) in
+      let stops = stops_here (omega (arith, so_far.allowed, ap length so_far.split, length-append so_far.consumed (text_of now), long)) in
+      let front : take limit script ≡ so_far.consumed ++ take (allowance now.place) (text_of now) =
+      ap (λ (n : ℕ). take n script) (sym so_far.allowed) ∙ ap (take (length so_far.consumed + (allowance now.place))) so_far.split
+      ∙ take-append-add so_far.consumed (text_of now) (allowance now.place) in
+      let tail = items_of_lines (ended_lines (take (allowance now.place) (text_of now))) in
       let lines : items_of_lines (ended_lines (take limit script)) ≡ items ++ tail =
-      ap items_of_lines (ap ended_lines front ∙ ended-append so_far.consumed (take left rest) stops)
-      ∙ flat_map-append line_items (ended_lines so_far.consumed) (ended_lines (take left rest))
+      ap items_of_lines (ap ended_lines front ∙ ended-append so_far.consumed (take (allowance now.place) (text_of now)) stops)
+      ∙ flat_map-append line_items (ended_lines so_far.consumed) (ended_lines (take (allowance now.place) (text_of now)))
       ∙ ap (λ (s : List Item). s ++ tail) (ap items_of_lines (ended_all so_far.consumed stops) ∙ sym so_far.asked) in (
         tail ++ (unread misreading.ScriptTooLong ∷ asked Close [] ∷ []),
         sym (append_assoc items tail (unread misreading.ScriptTooLong ∷ asked Close [] ∷ []))

@@ -4,8 +4,11 @@ use Rattle.std.proofs.Common.{◌≡◌, ℕ, ◌+◌, ◌≤◌, ◌==◌, Bool
 use Rattle.std.proofs.lemmas.Bool.{cond-false, le-ltb}
 use Rattle.cckd_base.specs.declared.geometry.Layout.{Layout}
 use Rattle.cckd_shelf.specs.declared.fault.Failed.{Failed}
-use Rattle.cckd_shelf.specs.declared.fault.Faults.{Faults}
-use Rattle.cckd_shelf.specs.Faults.{Rose, NoneFell}
+use Rattle.cckd_shelf.specs.declared.shows.Shows.{Ghosts}
+use Rattle.cckd_shelf.specs.declared.fault.Kind.TheVariants.{Reads, Puts}
+use Rattle.cckd_shelf.specs.Faults.{Raises}
+use Rattle.cckd_shelf.specs.Frame.{PutsAll, PutsSome}
+use Rattle.cckd_shelf.specs.Seen.{Seen, seen, Tells, Stays}
 use Rattle.cckd_shelf.specs.Events.{output_of}
 use Rattle.cckd_shelf.specs.World.{World, file_of}
 use Rattle.cckd_base.specs.declared.geometry.Addr.{Addr}
@@ -25,88 +28,76 @@ use Rattle.cckd_script.specs.Parse.{Request, nothing, one, turns, read_asked, re
 use Rattle.cckd_base.specs.Put.{IsPut}
 use Rattle.cckd_script.specs.Lines.{line_limit}
 use Rattle.cckd_script.specs.Text.{Entry, FitsCall, entry_text, script_text}
-use Rattle.cckd_top.specs.World.{KeepsFiles, PutsFront}
+use Rattle.cckd_top.specs.Counts.{RoseBy, failures}
+use Rattle.cckd_top.specs.World.{TellsFiles, OnlySays, PutsFront}
 use Rattle.cckd_top.specs.Reading.{IsReadReply}
-use Rattle.cckd_top.specs.Serving.{IsServed, IsAskedBy, IsLegal, HasServed, Serves, RoseBy, entry_faults, entry_status}
-use Rattle.cckd_shelf.proofs.FaultLemmas.{none_fell_self, none_fell_twice}
-use Rattle.cckd_top.proofs.WorldLemmas.{keeps_files_same}
+use Rattle.cckd_top.specs.Serving.{IsServed, IsAskedBy, IsLegal, Serves, account_of, entry_faults, entry_status}
+use Rattle.cckd_shelf.proofs.PutLemmas.{puts_output}
+use Rattle.cckd_top.proofs.CountLemmas.{rose_none, rose_so_far, rose_and_one}
+use Rattle.cckd_top.proofs.WorldLemmas.{front_says, front_said, says_nothing, says_later}
 
 -- what was put at the front of a line is the line
 pub line_is : (end : ℕ) (text old new : List ℕ) → IsPut 0 end text old new → take end new ≡ text
 line_is end text old new put = put.front
 
--- the counts of two stretches
-pub rose_twice : (m n a b c : ℕ) → RoseBy m a b → RoseBy n b c → RoseBy (m + n) a c
-rose_twice m n a b c f g = omega (arith, f, g)
-
-module _ (tells told : Type 0) (l : Layout) (file : List ℕ) (old between new : World) (before asked after : Faults) (entry : Entry)
-    (text : List ℕ)
-    (legal : told → IsLegal l file entry) (counted : RoseBy (entry_faults entry) before.reads asked.reads)
-    (kept : tells → between ≡ old) (fell : NoneFell before asked)
+-- one item is served, over what a stage of some type shows
+module _ {S : Type 0} (shows : Ghosts S) (l : Layout) (old between new : S) (entry : Entry) (text : List ℕ)
+    (legal : TellsFiles (seen shows old) → IsLegal l (file_of (shows.world old) 0) entry)
+    (counted : RoseBy (failures Reads (entry_faults entry)) (shows.faults old) (shows.faults between))
+    (kept : Stays (seen shows old) (seen shows between))
     (is : text ≡ entry_text entry)
-    (files : tells → KeepsFiles between new) (unchanged : tells → file_of new 0 ≡ file_of between 0) (script : tells → new.script ≡ between.script) (behind : NoneFell asked after)
+    (front : PutsSome text (seen shows between) (seen shows new))
   where
-    one_legal : HasServed told l file before after (entry ∷ [])
-    one_legal = record {
-      legal = λ t. (legal t, tt);
-      counted = omega (arith, counted, behind.reads);
-    }
+    one_counted : RoseBy (account_of (entry ∷ [])).failed (shows.faults old) (shows.faults between)
+    one_counted = subst (λ (n : ℕ). RoseBy (failures Reads n) (shows.faults old) (shows.faults between)) (omega arith) counted
 
     said_text : text ≡ script_text (entry ∷ [])
     said_text = is ∙ sym (append-nil (entry_text entry))
 
-    -- one item was served, and its line put
-    pub one_served : (status : ℕ) → status ≡ entry_status entry
-        → (tells → output_of new.events ≡ output_of between.events ++ text)
-        → Serves tells told l file old new before after (item_of entry ∷ []) (Ok status)
-    one_served status known whole = record {
+    one_only : Tells (seen shows old) → OnlySays (shows.world old) (shows.world new)
+    one_only t = says_later (shows.world old) (shows.world between) (shows.world new) (kept t) (front_says text (shows.world between) (shows.world new) (front t))
+
+    -- and its line put
+    pub one_served : (status : ℕ) → status ≡ entry_status entry → PutsAll text (seen shows between) (seen shows new)
+        → shows.faults new ≡ shows.faults between → Serves l (item_of entry ∷ []) (seen shows old) (seen shows new) (Ok status)
+    one_served status known whole still = record {
       entries = entry ∷ [];
       asked = refl;
-      served = one_legal;
-      said = (
-        λ t. whole t ∙ ap (λ (w : World). output_of w.events ++ text) (kept t)
-            ∙ ap (λ (s : List ℕ). output_of old.events ++ s) said_text,
-        omega (arith, known),
-      );
-      script = λ t. script t ∙ ap (λ (w : World). w.script) (kept t);
-      files = λ t. subst (λ (w : World). KeepsFiles w new) (kept t) (files t);
-      slot = λ t. unchanged t ∙ ap (λ (w : World). file_of w 0) (kept t);
-      fell = none_fell_twice before asked after fell behind;
+      legal = λ t. (legal t, tt);
+      said = record {
+        put = λ t. puts_output text (shows.world between) (shows.world new) (whole t)
+            ∙ ap (λ (w : World). output_of w.events ++ text) (kept t)
+            ∙ ap (λ (s : List ℕ). output_of (shows.world old).events ++ s) said_text;
+        asked = omega (arith, known);
+        counted = rose_so_far (account_of (entry ∷ [])).failed (shows.faults old) (shows.faults between) (shows.faults new) one_counted still;
+      };
+      only = one_only;
     }
 
-    -- one item was served, and the output failed in its line
-    pub one_cut : (failed : Failed) → (tells → PutsFront between new text) → Rose asked.puts after.puts
-        → Serves tells told l file old new before after (item_of entry ∷ []) (Err failed)
-    one_cut failed front rose = record {
+    -- and the output failed in its line
+    pub one_cut : (fault : Failed) → Raises Puts (shows.faults between) (shows.faults new)
+        → Serves l (item_of entry ∷ []) (seen shows old) (seen shows new) (Err fault)
+    one_cut fault rose = record {
       entries = entry ∷ [];
       asked = refl;
-      served = one_legal;
-      said = (
-        λ t. subst (λ (w : World). PutsFront w new (script_text (entry ∷ []))) (kept t)
-            (subst (λ (s : List ℕ). PutsFront between new s) said_text (front t)),
-        omega (arith, rose, fell.puts),
-      );
-      script = λ t. script t ∙ ap (λ (w : World). w.script) (kept t);
-      files = λ t. subst (λ (w : World). KeepsFiles w new) (kept t) (files t);
-      slot = λ t. unchanged t ∙ ap (λ (w : World). file_of w 0) (kept t);
-      fell = none_fell_twice before asked after fell behind;
+      legal = λ t. (legal t, tt);
+      said = record {
+        front = λ t. subst (λ (w : World). PutsFront w (shows.world new) (script_text (entry ∷ []))) (kept t)
+            (subst (λ (s : List ℕ). PutsFront (shows.world between) (shows.world new) s) said_text
+            (front_said text (shows.world between) (shows.world new) (front t)));
+        counted = rose_and_one Puts (account_of (entry ∷ [])).failed (shows.faults old) (shows.faults between) (shows.faults new) one_counted rose;
+      };
+      only = one_only;
     }
-
-pub rose_by_none : (a : ℕ) → RoseBy 0 a a
-rose_by_none a = omega arith
 
 -- a line asks for nothing
-pub none_served : (tells told : Type 0) (l : Layout) (file : List ℕ) (w : World) (f : Faults) (items : List Item) → items ≡ []
-    → Serves tells told l file w w f f items (Ok 0)
-none_served tells told l file w f items none = record {
+pub none_served : (l : Layout) (items : List Item) (s : Seen) → items ≡ [] → Serves l items s s (Ok 0)
+none_served l items s none = record {
   entries = [];
   asked = sym none;
-  served = record { legal = λ t. tt; counted = rose_by_none f.reads };
-  said = (λ t. sym (append-nil (output_of w.events)), refl);
-  script = λ t. refl;
-  files = λ t. keeps_files_same w;
-  slot = λ t. refl;
-  fell = none_fell_self f;
+  legal = λ t. tt;
+  said = record { put = λ t. sym (append-nil (output_of s.world.events)); asked = refl; counted = rose_none s.faults };
+  only = λ t. says_nothing s.world;
 }
 
 -- a read is served, and gives no bytes; nothing else is asked

@@ -15,7 +15,7 @@ use Rattle.cckd_shelf.proofs.WorldLemmas.{bind_keeps}
 use Rattle.cckd_shelf.specs.Frame.{puts, OnlyPuts}
 use Rattle.cckd_shelf.specs.Frame as front
 use Rattle.cckd_lines.specs.Lines.{OnlyTakes}
-use Rattle.cckd_top.specs.World.{IsOutput, AreIntact, StayIntact, KeepsFiles, OnlyMakes, MakesSome, MakesThenPuts, PutsFront}
+use Rattle.cckd_top.specs.World.{IsOutput, AreIntact, StayIntact, KeepsFiles, OnlyMakes, MakesSome, MakesThenPuts, PutsFront, OnlySays}
 
 pub all_twice : {X : Type 0} (P : X → Type 0) (xs ys : List X) → AllByRecursion P xs → AllByRecursion P ys → AllByRecursion P (xs ++ ys)
 all_twice P [] ys f g = g
@@ -170,6 +170,15 @@ front_keeps text old new h = puts_keep (take h.count text) old new h.put
 
 pub front_file : (text : List ℕ) (old new : World) → front.PutsFront text old new → file_of new 0 ≡ file_of old 0
 front_file text old new h = ap (λ (es : List Event). file_now es 0) h.put.events ∙ file_at_puts h.put.pieces old.events 0
+
+pub front_says : (text : List ℕ) (old new : World) → front.PutsFront text old new → OnlySays old new
+front_says text old new h = record { files = front_keeps text old new h; slot = front_file text old new h; script = h.put.script }
+
+pub says_nothing : (w : World) → OnlySays w w
+says_nothing w = record { files = keeps_files_same w; slot = refl; script = refl }
+
+pub says_later : (old between new : World) → between ≡ old → OnlySays between new → OnlySays old new
+says_later old between new same says = subst (λ (w : World). OnlySays w new) same says
 
 pub front_said : (text : List ℕ) (old new : World) → front.PutsFront text old new → PutsFront old new text
 front_said text old new h = record { count = h.count; front = puts_output (take h.count text) old new h.put }

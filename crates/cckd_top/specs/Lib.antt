@@ -1,6 +1,8 @@
 pub mod Words
 pub mod Names
 pub mod World
+pub mod Counts
+pub mod Saying
 pub mod Opening
 pub mod Reading
 pub mod Serving

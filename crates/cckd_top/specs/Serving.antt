@@ -1,5 +1,5 @@
 -- The replies to a script, and what they tell.
-use Rattle.std.specs.Prelude.{◌≡◌, ◌⊎◌, ◌<◌, ◌≤◌, ⊤, ℕ, ◌+◌, ◌-◌, ◌^◌, min, max, Bool, true, false, List, [], ◌∷◌, ◌++◌, length, map, take, drop, Result, Ok, Err}
+use Rattle.std.specs.Prelude.{◌≡◌, ◌⊎◌, ◌<◌, ◌≤◌, ⊤, ℕ, ◌+◌, ◌-◌, max, Bool, true, false, List, [], ◌∷◌, ◌++◌, length, map, take, drop, Result, Ok, Err}
 use Rattle.std.specs.List.{AllByRecursion}
 use Rattle.cckd_base.specs.declared.geometry.Layout.{Layout}
 use Rattle.cckd_base.specs.declared.call.Call.{Call}
@@ -9,11 +9,9 @@ use Rattle.cckd_base.specs.declared.reply.Reply.TheVariants as reply
 use Rattle.cckd_base.specs.declared.reply.Refusal.{Refusal}
 use Rattle.cckd_base.specs.declared.reply.Refusal.TheVariants as refusal
 use Rattle.cckd_shelf.specs.declared.fault.Failed.{Failed}
-use Rattle.cckd_shelf.specs.declared.fault.Faults.{Faults}
-use Rattle.cckd_shelf.specs.Faults.{Rose, NoneFell}
-use Rattle.cckd_shelf.specs.Events.{output_of}
+use Rattle.cckd_shelf.specs.declared.fault.Kind.TheVariants.{Reads, Takes}
 use Rattle.cckd_shelf.specs.Seen.{Seen, Tells}
-use Rattle.cckd_shelf.specs.World.{World, IsSure, file_of}
+use Rattle.cckd_shelf.specs.World.{file_of}
 use Rattle.cckd_script.specs.declared.misread.Misreading.{Misreading}
 use Rattle.cckd_script.specs.declared.misread.Misreading.TheVariants as misreading
 use Rattle.cckd_script.specs.declared.parse.What.{What}
@@ -26,7 +24,9 @@ use Rattle.cckd_lines.specs.declared.lines.Next.TheVariants as next
 use Rattle.cckd_top.specs.declared.serving.Stop.{Stop}
 use Rattle.cckd_top.specs.declared.serving.Stop.TheVariants as stop
 use Rattle.cckd_top.specs.Reading.{AnswersRead, reply_faults}
-use Rattle.cckd_top.specs.World.{KeepsFiles, PutsFront}
+use Rattle.cckd_top.specs.Counts.{failures, one_more}
+use Rattle.cckd_top.specs.Saying.{Account, SaysAll, SaysPart}
+use Rattle.cckd_top.specs.World.{TellsFiles, KeepsFiles, OnlySays}
 
 -- what may be said to a call; the others aren't served
 abbrev pub MayAnswer : Layout → List ℕ → Call → Reply → List ℕ → Type 0
@@ -62,10 +62,6 @@ abbrev pub read_faults : List Entry → ℕ
 read_faults [] = 0
 read_faults (e ∷ es) = entry_faults e + read_faults es
 
--- a count rose by so many, or stands at the last value of a `u64`
-abbrev pub RoseBy : ℕ → ℕ → ℕ → Type 0
-RoseBy n old new = min (old + n) (2 ^ 64 - 1) ≤ new
-
 -- the status that a refusal asks for
 abbrev pub refusal_status : Refusal → ℕ
 refusal_status refusal.ReadFault = 7
@@ -90,28 +86,30 @@ abbrev pub worst : List Entry → ℕ
 worst [] = 0
 worst (e ∷ es) = max (entry_status e) (worst es)
 
--- the lines of these entries were put, or the output failed in one of them
-abbrev pub AreSaid : Type 0 → World → World → Faults → Faults → List Entry → Result ℕ Failed → Type 0
-AreSaid tells old new before after entries (Ok status) =
-    (tells → output_of new.events ≡ output_of old.events ++ script_text entries) × (status ≡ worst entries)
-AreSaid tells old new before after entries (Err failed) = (tells → PutsFront old new (script_text entries)) × Rose before.puts after.puts
+-- what these entries tell: their lines, the worst of what they ask for, and the faults of reading among their replies
+abbrev pub account_of : List Entry → Account
+account_of entries = record { text = script_text entries; status = worst entries; failed = failures Reads (read_faults entries) }
 
--- each of these replies is legal, and no more of them tell a fault of reading than their count rose by
-pub record HasServed (told : Type 0) (l : Layout) (file : List ℕ) (before after : Faults) (entries : List Entry) : Type 0 where
-  pub legal : told → AllByRecursion (IsLegal l file) entries
-  pub counted : RoseBy (read_faults entries) before.reads after.reads
+-- the same where the script couldn't be taken on
+abbrev pub untaken : Account → Account
+untaken told = record told { failed = one_more Takes told.failed }
 
--- these items were served, with some entries, which were said
-pub record Serves (tells told : Type 0) (l : Layout) (file : List ℕ) (old new : World) (before after : Faults) (items : List Item)
-    (result : Result ℕ Failed) : Type 0 where
+-- they were said, and the answer is their status; or the output failed in one of them
+abbrev pub AreSaid : List Entry → Seen → Seen → Result ℕ Failed → Type 0
+AreSaid entries old new (Ok status) = SaysAll (account_of entries) old new status
+AreSaid entries old new (Err fault) = SaysPart (account_of entries) old new
+
+-- each reply is the layered disk's over the file in slot 0, or a fault of reading
+abbrev pub AreLegal : Layout → Seen → List Entry → Type 0
+AreLegal l old entries = TellsFiles old → AllByRecursion (IsLegal l (file_of old.world 0)) entries
+
+-- these items were served, with some entries, which were said, and nothing else was done
+pub record Serves (l : Layout) (items : List Item) (old new : Seen) (result : Result ℕ Failed) : Type 0 where
   pub entries : List Entry
   pub asked : map item_of entries ≡ items
-  pub served : HasServed told l file before after entries
-  pub said : AreSaid tells old new before after entries result
-  pub script : tells → new.script ≡ old.script
-  pub files : tells → KeepsFiles old new
-  pub slot : tells → file_of new 0 ≡ file_of old 0
-  pub fell : NoneFell before after
+  pub legal : AreLegal l old entries
+  pub said : AreSaid entries old new result
+  pub only : Tells old → OnlySays old.world new.world
 
 -- the entries are those of the lines that ended in what was taken of the script, within its limit
 pub record OfTheTaken (limit : ℕ) (script left : List ℕ) (entries : List Entry) : Type 0 where
@@ -143,29 +141,20 @@ is_last next.LineTooLong = false
 is_last next.ScriptTooLong = true
 is_last next.End = true
 
--- A script was served until this: its entries, what they are of, and how they were said. A script that is closed was said whole,
--- and one that couldn't be taken up to there; one that was cut has a line in which the output failed.
-abbrev pub StopsBy : Type 0 → ℕ → World → World → Faults → Faults → List Entry → Stop → Type 0
-StopsBy tells limit w w' before after entries (stop.Closed status) =
-    (tells → OfTheScript limit w.script w'.script entries) × AreSaid tells w w' before after entries (Ok status)
-StopsBy tells limit w w' before after entries stop.Unscripted =
-    (tells → OfTheTaken limit w.script w'.script entries) × Rose before.takes after.takes × AreSaid tells w w' before after entries (Ok (worst entries))
-StopsBy tells limit w w' before after entries stop.Cut =
-    (tells → OfAFront limit w.script entries) × AreSaid tells w w' before after entries (Err (record {}))
+-- A script was served until this: what its entries are of, and how they were said. A script that is closed was said whole, and
+-- one that couldn't be taken up to there; one that was cut has a line in which the output failed.
+abbrev pub StopsBy : ℕ → List Entry → Seen → Seen → Stop → Type 0
+StopsBy limit entries old new (stop.Closed status) =
+    (Tells old → OfTheScript limit old.world.script new.world.script entries) × SaysAll (account_of entries) old new status
+StopsBy limit entries old new stop.Unscripted =
+    (Tells old → OfTheTaken limit old.world.script new.world.script entries)
+    × SaysAll (untaken (account_of entries)) old new (worst entries)
+StopsBy limit entries old new stop.Cut =
+    (Tells old → OfAFront limit old.world.script entries) × SaysPart (account_of entries) old new
 
--- a script was served over a file until this
-pub record ServesScript (tells told : Type 0) (l : Layout) (file : List ℕ) (limit : ℕ) (w w' : World) (before after : Faults) (end : Stop) : Type 0 where
+-- a script was served over the file in slot 0 until this
+pub record ServesScript (l : Layout) (limit : ℕ) (old new : Seen) (end : Stop) : Type 0 where
   pub entries : List Entry
-  pub served : HasServed told l file before after entries
-  pub stops : StopsBy tells limit w w' before after entries end
-  pub files : tells → KeepsFiles w w'
-  pub fell : NoneFell before after
-
--- the same of what a stage shows, over the file in slot 0
-abbrev pub ServesItems : Layout → Seen → Seen → List Item → Result ℕ Failed → Type 0
-ServesItems l old new items result =
-    Serves (Tells old) (Tells old × IsSure old.world) l (file_of old.world 0) old.world new.world old.faults new.faults items result
-
-abbrev pub ServesWhole : Layout → ℕ → Seen → Seen → Stop → Type 0
-ServesWhole l limit old new end =
-    ServesScript (Tells old) (Tells old × IsSure old.world) l (file_of old.world 0) limit old.world new.world old.faults new.faults end
+  pub legal : AreLegal l old entries
+  pub stops : StopsBy limit entries old new end
+  pub files : Tells old → KeepsFiles old.world new.world

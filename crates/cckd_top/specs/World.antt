@@ -1,13 +1,16 @@
 -- What a run that only reads may do to the outside.
-use Rattle.std.specs.Prelude.{◌≡◌, ◌<◌, ⊤, ℕ, zero, suc, max, Bool, true, false, ◌||◌, List, ◌++◌, take, Some}
+use Rattle.std.specs.Prelude.{◌≡◌, ◌<◌, ⊤, ℕ, zero, suc, Bool, true, false, ◌||◌, List, ◌++◌, take, Some}
 use Rattle.std.specs.List.{AllByRecursion}
 use Rattle.cckd_shelf.specs.Events.{Event, Written, Torn, Cut, HalfCut, Synced, Put, Bound, Named, ops_of, is_sure, output_of, name_of, was_bound}
-use Rattle.cckd_shelf.specs.Faults.{Rose}
 use Rattle.cckd_shelf.specs.Seen.{Seen, Tells}
-use Rattle.cckd_shelf.specs.World.{World, file_of, held_by}
+use Rattle.cckd_shelf.specs.World.{World, IsSure, file_of, held_by}
 use Rattle.cckd_shelf.specs.Outcomes.{MayBeLeft, AtEach}
 use Rattle.cckd_base.specs.Header.{is_present}
 use Rattle.cckd_top.specs.Names.{slot_name}
+
+-- it is told what the files hold
+abbrev pub TellsFiles : Seen → Type 0
+TellsFiles s = Tells s × IsSure s.world
 
 -- an operation that puts bytes out, and asks nothing of the disk
 abbrev pub IsOutput : Event → Type 0
@@ -81,13 +84,8 @@ pub record PutsFront (old new : World) (text : List ℕ) : Type 0 where
   pub count : ℕ
   pub front : output_of new.events ≡ output_of old.events ++ take count text
 
--- The whole text was put, with the status that goes with it; or a fault of the output cut it short, and the status is the greater of its and the text's.
-pub data IsPrinted (tells : Type 0) (old new : World) (text : List ℕ) (code : ℕ) (puts_rose : Type 0) (status : ℕ) : Type 0 where
-  whole : (tells → output_of new.events ≡ output_of old.events ++ text) → status ≡ code
-      → IsPrinted tells old new text code puts_rose status
-  cut_short : (tells → PutsFront old new text) → puts_rose → status ≡ max code 7
-      → IsPrinted tells old new text code puts_rose status
-
--- the same of what a stage shows, by the count of failed puts
-abbrev pub Prints : Seen → Seen → List ℕ → ℕ → ℕ → Type 0
-Prints old new text code status = IsPrinted (Tells old) old.world new.world text code (Rose old.faults.puts new.faults.puts) status
+-- no file is made or changed, slot 0 holds what it held, and nothing of the script is taken
+pub record OnlySays (old new : World) : Type 0 where
+  pub files : KeepsFiles old new
+  pub slot : file_of new 0 ≡ file_of old 0
+  pub script : new.script ≡ old.script

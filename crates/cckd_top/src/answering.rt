@@ -6,7 +6,7 @@ ghost use Rattle.cckd_shelf.specs.World.{IsSure, file_of};
 ghost use Rattle.cckd_base.specs.Geometry.{IsLayout};
 ghost use Rattle.cckd_script.specs.Items.{asked, unread, line_items};
 ghost use Rattle.cckd_top.specs.Opening.{IsBase};
-ghost use Rattle.cckd_top.specs.Serving.{ServesItems, IsServed, IsAskedBy, refusal_status, reply_status};
+ghost use Rattle.cckd_top.specs.Serving.{Serves, IsServed, IsAskedBy, refusal_status, reply_status};
 
 use crate::reading::read_at;
 use cckd_base::{Addr, Call, Layout, Refusal, Reply};
@@ -61,7 +61,7 @@ fn answer_read<T: Stage>(
     requires mounted { Tells (seen T.Shows stage.old) → IsSure (seen T.Shows stage.old).world → IsBase l.now (file_of (seen T.Shows stage.old).world 0) }
     requires track { 65536 ≤ length track.old }
     requires output { LINE_ROOM ≤ length output.old }
-    ensures { ServesItems l.now (seen T.Shows stage.old) (seen T.Shows stage.new) (asked (Call.Read at) [] ∷ []) result }
+    ensures { Serves l.now (asked (Call.Read at) [] ∷ []) (seen T.Shows stage.old) (seen T.Shows stage.new) result }
 {
     let reply = read_at(stage, base, l, at, track);
     let end = print_reply(None, Call::Read { at }, &reply, 0, track, output);
@@ -74,7 +74,7 @@ fn answer_read<T: Stage>(
 /// Prints the reply to the call that ends a run. The answer is its status.
 pub fn close<T: Stage>(stage: &mut T, l: &Layout, output: &mut [u8]) -> Result<u8, Failed>
     requires output { LINE_ROOM ≤ length output.old }
-    ensures { ServesItems l.now (seen T.Shows stage.old) (seen T.Shows stage.new) (asked Call.Close [] ∷ []) result }
+    ensures { Serves l.now (asked Call.Close [] ∷ []) (seen T.Shows stage.old) (seen T.Shows stage.new) result }
 {
     let end = print_reply(None, Call::Close, &Reply::Closed, 0, &[], output);
     let Ok(()) = put_all(stage, &output[..end as usize]) else {
@@ -91,7 +91,7 @@ pub fn refuse<T: Stage>(
     output: &mut [u8],
 ) -> Result<u8, Failed>
     requires output { LINE_ROOM ≤ length output.old }
-    ensures { ServesItems l.now (seen T.Shows stage.old) (seen T.Shows stage.new) (unread why ∷ []) result }
+    ensures { Serves l.now (unread why ∷ []) (seen T.Shows stage.old) (seen T.Shows stage.new) result }
 {
     let end = print_misreading(why, output);
     let Ok(()) = put_all(stage, &output[..end as usize]) else {
@@ -115,7 +115,7 @@ fn answer<T: Stage>(
     requires served { IsServed call }
     requires track { 65536 ≤ length track.old }
     requires output { LINE_ROOM ≤ length output.old }
-    ensures { ServesItems l.now (seen T.Shows stage.old) (seen T.Shows stage.new) (asked call [] ∷ []) result }
+    ensures { Serves l.now (asked call [] ∷ []) (seen T.Shows stage.old) (seen T.Shows stage.new) result }
 {
     match call {
         Call::Read { at } => answer_read(stage, base, l, at, track, output),
@@ -153,7 +153,7 @@ pub fn answer_line<T: Stage>(
     requires line { length line.now ≤ LINE_LIMIT }
     requires track { 65536 ≤ length track.old }
     requires output { LINE_ROOM ≤ length output.old }
-    ensures { ServesItems l.now (seen T.Shows stage.old) (seen T.Shows stage.new) (line_items line.now) result }
+    ensures { Serves l.now (line_items line.now) (seen T.Shows stage.old) (seen T.Shows stage.new) result }
 {
     match request_of(line, track) {
         Ok(What::Nothing) => Ok(0),

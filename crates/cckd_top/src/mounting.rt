@@ -2,11 +2,10 @@
 
 ghost use Rattle.std.specs.Prelude.{◌≡◌, ◌≤◌, IsTrue, IfOk, IfErr, OnOk, ◌++◌, min, length, take, drop};
 ghost use Rattle.cckd_shelf.specs.Seen.{seen, Tells, Stays, Fails};
-ghost use Rattle.cckd_shelf.specs.Faults.{NoneFell};
 ghost use Rattle.cckd_shelf.specs.declared.fault.Kind.TheVariants.{Reads};
 ghost use Rattle.cckd_shelf.specs.World.{IsSure, file_of, held_by};
 ghost use Rattle.cckd_base.specs.Geometry.{area_of, IsLayout};
-ghost use Rattle.cckd_top.specs.Opening.{IsBase, HasSoundHeaders, IsBaseCause, IsSurveyCause};
+ghost use Rattle.cckd_top.specs.Opening.{IsBase, HasSoundHeaders, IsBaseCause, IsSurveyCause, CountsHalt};
 ghost use Rattle.cckd_base.specs.Survey.{HasNoMisfit};
 ghost use Rattle.cckd_top.specs.Opening.{ready};
 ghost use Rattle.cckd_top.specs.Run.{IsHaltCause, HaltMakes, IsBaseSync, opening_in};
@@ -62,9 +61,9 @@ fn survey<T: Stage>(
     requires length { Tells (seen T.Shows stage.old) → IsSure (seen T.Shows stage.old).world → len ≡ length (file_of (seen T.Shows stage.old).world 0) }
     ensures layout { IfOk result (λ found. found ≡ l) }
     ensures clean { Tells (seen T.Shows stage.old) → IsSure (seen T.Shows stage.old).world → OnOk result (HasNoMisfit l (file_of (seen T.Shows stage.old).world 0)) }
-    ensures cause { IfErr result (IsSurveyCause l (seen T.Shows stage.old) (seen T.Shows stage.new)) }
+    ensures cause { IfErr result (IsSurveyCause l (seen T.Shows stage.old)) }
     ensures kept { Stays (seen T.Shows stage.old) (seen T.Shows stage.new) }
-    ensures fell { NoneFell (seen T.Shows stage.old).faults (seen T.Shows stage.new).faults }
+    ensures counts { CountsHalt result (seen T.Shows stage.old) (seen T.Shows stage.new) }
 {
     match scan(alloc, stage, base, &l, len) {
         Ok(_) => Ok(l),
@@ -81,9 +80,9 @@ fn base_layout<T: Stage>(stage: &mut T, base: Slot) -> Result<(Layout, u32), Hal
     ensures area { IfOk result (λ found. area_of found.0.groups ≤ found.1) }
     ensures sound { Tells (seen T.Shows stage.old) → IsSure (seen T.Shows stage.old).world
         → IfOk result (λ found. HasSoundHeaders (file_of (seen T.Shows stage.old).world 0) found.0 found.1) }
-    ensures cause { IfErr result (IsBaseCause (seen T.Shows stage.old) (seen T.Shows stage.new)) }
+    ensures cause { IfErr result (IsBaseCause (seen T.Shows stage.old)) }
     ensures kept { Stays (seen T.Shows stage.old) (seen T.Shows stage.new) }
-    ensures fell { NoneFell (seen T.Shows stage.old).faults (seen T.Shows stage.new).faults }
+    ensures counts { CountsHalt result (seen T.Shows stage.old) (seen T.Shows stage.new) }
 {
     let mut headers = [0; HEADERS];
     let Ok(len) = read_headers(stage, base, &mut headers) else {
@@ -100,9 +99,9 @@ fn open_base<T: Stage>(stage: &mut T, alloc: Global, base: Slot) -> Result<Layou
     requires { base ≡ 0 }
     ensures layout { IfOk result IsLayout }
     ensures opened { Tells (seen T.Shows stage.old) → IsSure (seen T.Shows stage.old).world → IfOk result (λ l. IsBase l (file_of (seen T.Shows stage.old).world 0)) }
-    ensures cause { IfErr result (IsBaseCause (seen T.Shows stage.old) (seen T.Shows stage.new)) }
+    ensures cause { IfErr result (IsBaseCause (seen T.Shows stage.old)) }
     ensures kept { Stays (seen T.Shows stage.old) (seen T.Shows stage.new) }
-    ensures fell { NoneFell (seen T.Shows stage.old).faults (seen T.Shows stage.new).faults }
+    ensures counts { CountsHalt result (seen T.Shows stage.old) (seen T.Shows stage.new) }
 {
     match base_layout(stage, base) {
         Ok((layout, len)) => survey(stage, alloc, base, layout, len),
@@ -119,10 +118,10 @@ pub fn mount<T: Stage>(stage: &mut T, alloc: Global, base: Slot, file: &str) -> 
         → IfOk result (λ l. opening_in (seen T.Shows stage.old).world file.now ≡ ready l) }
     ensures mounted { Tells (seen T.Shows stage.old) → IsSure (seen T.Shows stage.old).world → IfOk result (λ l. IsBase l (file_of (seen T.Shows stage.new).world 0)) }
     ensures base { Tells (seen T.Shows stage.old) → OnOk result (file_of (seen T.Shows stage.new).world 0 ≡ held_by (seen T.Shows stage.old).world file.now) }
-    ensures cause { IfErr result (IsHaltCause file.now (seen T.Shows stage.old) (seen T.Shows stage.new)) }
+    ensures cause { IfErr result (IsHaltCause file.now (seen T.Shows stage.old)) }
     ensures synced { Tells (seen T.Shows stage.old) → OnOk result (MakesSome IsBaseSync (seen T.Shows stage.old).world (seen T.Shows stage.new).world) }
     ensures makes { Tells (seen T.Shows stage.old) → IfErr result (λ why. MakesSome (HaltMakes why) (seen T.Shows stage.old).world (seen T.Shows stage.new).world) }
-    ensures fell { NoneFell (seen T.Shows stage.old).faults (seen T.Shows stage.new).faults }
+    ensures counts { CountsHalt result (seen T.Shows stage.old) (seen T.Shows stage.new) }
 {
     let Ok(()) = bind_all(stage, file) else {
         return Err(Halt::ReadFault);

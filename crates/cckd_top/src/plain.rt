@@ -20,7 +20,7 @@ const SCRIPT_ROOM: usize = LINE_LIMIT + 65_536;
 /// line by line, whatever its length, and prints a line for each reply. It waits for nobody. Beside what the
 /// stage takes, memory is taken by the survey at mounting alone.
 pub fn run_plain<T: Stage>(stage: T, alloc: Global, words: &[String]) -> (T, Status)
-    ensures { IsExplained (seen T.Shows stage) (seen T.Shows result.0) (map string_bytes words.now) result.1.code }
+    ensures { IsExplained (map string_bytes words.now) (seen T.Shows stage) (seen T.Shows result.0) result.1.code }
 {
     let mut stage = stage;
     let mut room = [0; SCRIPT_ROOM];

@@ -2,7 +2,6 @@
 
 ghost use Rattle.std.specs.Prelude.{◌≡◌, ◌+◌, ◌<◌, ◌≤◌, IfOk, length};
 ghost use Rattle.cckd_shelf.specs.Seen.{seen, Tells, Stays, Fails};
-ghost use Rattle.cckd_shelf.specs.Faults.{NoneFell};
 ghost use Rattle.cckd_shelf.specs.declared.fault.Kind.TheVariants.{Reads};
 ghost use Rattle.cckd_shelf.specs.World.{IsSure, file_of};
 ghost use Rattle.cckd_base.specs.Geometry.{track_count, IsLayout, IsNullFormat};
@@ -11,7 +10,7 @@ ghost use Rattle.cckd_base.specs.Track.{null_track, track_value};
 ghost use Rattle.cckd_script.specs.Text.{answered_length, answered_bytes};
 ghost use Rattle.cckd_top.specs.Opening.{IsBase};
 ghost use Rattle.cckd_top.specs.Reading.{IsReplyTo, AnswersRead, visible, reply_faults, IsTrackReply, IsReadReply};
-ghost use Rattle.cckd_top.specs.Serving.{RoseBy};
+ghost use Rattle.cckd_top.specs.Counts.{RoseBy, failures};
 
 use crate::lookup::entry_of;
 use cckd_base::{Addr, L2Entry, Layout, Refusal, Reply, Track, Unit};
@@ -125,9 +124,8 @@ pub fn read_at<T: Stage>(stage: &mut T, base: Slot, l: &Layout, at: Addr, out: &
     ensures answers { Tells (seen T.Shows stage.old) → IsSure (seen T.Shows stage.old).world
         → AnswersRead l.now (file_of (seen T.Shows stage.old).world 0) at result (answered_bytes result out.new) }
     ensures short { IsReadReply result }
-    ensures counted { RoseBy (reply_faults result) (seen T.Shows stage.old).faults.reads (seen T.Shows stage.new).faults.reads }
+    ensures counted { RoseBy (failures Reads (reply_faults result)) (seen T.Shows stage.old).faults (seen T.Shows stage.new).faults }
     ensures kept { Stays (seen T.Shows stage.old) (seen T.Shows stage.new) }
-    ensures fell { NoneFell (seen T.Shows stage.old).faults (seen T.Shows stage.new).faults }
     ensures called { (seen T.Shows stage.new).calls ≤ (seen T.Shows stage.old).calls + 3 }
 {
     let Some(t) = l.geo.track(at) else {

@@ -2,12 +2,12 @@
 
 ghost use Rattle.std.specs.Prelude.{◌≡◌, ◌+◌, ◌≤◌, length, map, string_bytes, codes, IsTrue};
 ghost use Rattle.cckd_shelf.specs.Seen.{seen, Tells};
-ghost use Rattle.cckd_shelf.specs.Faults.{NoneFell};
 ghost use Rattle.cckd_script.specs.Text.{line as ended};
-ghost use Rattle.cckd_top.specs.Explained.{IsExplained, ExplainsFile, Ends};
+ghost use Rattle.cckd_top.specs.Explained.{IsExplained, ExplainsFile, Finishes};
 ghost use Rattle.cckd_top.specs.Text.{halt_text, halt_status};
 ghost use Rattle.cckd_top.specs.Words.{is_file_word};
-ghost use Rattle.cckd_top.specs.World.{KeepsFiles, Prints};
+ghost use Rattle.cckd_top.specs.World.{OnlySays};
+ghost use Rattle.cckd_top.specs.Saying.{IsSaid, plain_text};
 
 use crate::halt::Halt;
 use crate::mounting::mount;
@@ -38,10 +38,8 @@ fn status_of(halt: Halt) -> u8
 
 /// Puts a text, and answers the status of a run that ends with it.
 fn end_with<T: Stage>(stage: &mut T, text: &[u8], code: u8) -> u8
-    ensures printed { Prints (seen T.Shows stage.old) (seen T.Shows stage.new) text.now code result }
-    ensures files { Tells (seen T.Shows stage.old) → KeepsFiles (seen T.Shows stage.old).world (seen T.Shows stage.new).world }
-    ensures script { Tells (seen T.Shows stage.old) → (seen T.Shows stage.new).world.script ≡ (seen T.Shows stage.old).world.script }
-    ensures fell { NoneFell (seen T.Shows stage.old).faults (seen T.Shows stage.new).faults }
+    ensures said { IsSaid (plain_text text.now code) (seen T.Shows stage.old) (seen T.Shows stage.new) result }
+    ensures only { Tells (seen T.Shows stage.old) → OnlySays (seen T.Shows stage.old).world (seen T.Shows stage.new).world }
 {
     match put_all(stage, text) {
         Ok(()) => code,
@@ -52,10 +50,8 @@ fn end_with<T: Stage>(stage: &mut T, text: &[u8], code: u8) -> u8
 /// Prints why a run halts, and answers its status.
 fn end_halted<T: Stage>(stage: &mut T, halt: Halt, output: &mut [u8]) -> u8
     requires { HALT_ROOM ≤ length output.old }
-    ensures printed { Prints (seen T.Shows stage.old) (seen T.Shows stage.new) (ended (halt_text halt)) (halt_status halt) result }
-    ensures files { Tells (seen T.Shows stage.old) → KeepsFiles (seen T.Shows stage.old).world (seen T.Shows stage.new).world }
-    ensures script { Tells (seen T.Shows stage.old) → (seen T.Shows stage.new).world.script ≡ (seen T.Shows stage.old).world.script }
-    ensures fell { NoneFell (seen T.Shows stage.old).faults (seen T.Shows stage.new).faults }
+    ensures said { IsSaid (plain_text (ended (halt_text halt)) (halt_status halt)) (seen T.Shows stage.old) (seen T.Shows stage.new) result }
+    ensures only { Tells (seen T.Shows stage.old) → OnlySays (seen T.Shows stage.old).world (seen T.Shows stage.new).world }
 {
     let end = put_halt(output, halt);
     end_with(stage, &output[..end], status_of(halt))
@@ -63,7 +59,7 @@ fn end_halted<T: Stage>(stage: &mut T, halt: Halt, output: &mut [u8]) -> u8
 
 /// Ends a run whose script was served, and answers its status.
 fn end_served<T: Stage>(stage: &mut T, stop: Stop) -> u8
-    ensures { Ends (seen T.Shows stage.old) (seen T.Shows stage.new) result stop }
+    ensures { Finishes stop (seen T.Shows stage.old) (seen T.Shows stage.new) result }
 {
     match stop {
         Stop::Closed(status) => status,
@@ -85,7 +81,7 @@ fn run_file<T: Stage>(
     requires room { LINE_LIMIT + 2 ≤ length room.old }
     requires track { 65536 ≤ length track.old }
     requires output { LINE_ROOM ≤ length output.old }
-    ensures { ExplainsFile (seen T.Shows stage.old) (seen T.Shows stage.new) file.now result }
+    ensures { ExplainsFile file.now (seen T.Shows stage.old) (seen T.Shows stage.new) result }
 {
     let base = Slot::new(0).unwrap();
     match mount(stage, alloc, base, file) {
@@ -109,7 +105,7 @@ pub fn run_words<T: Stage>(
     requires room { LINE_LIMIT + 2 ≤ length room.old }
     requires track { 65536 ≤ length track.old }
     requires output { LINE_ROOM ≤ length output.old }
-    ensures { IsExplained (seen T.Shows stage.old) (seen T.Shows stage.new) (map string_bytes words.now) result }
+    ensures { IsExplained (map string_bytes words.now) (seen T.Shows stage.old) (seen T.Shows stage.new) result }
 {
     match named_file(words) {
         Ok(file) => run_file(stage, alloc, file, room, track, output),

@@ -6,7 +6,7 @@ ghost use Rattle.cckd_shelf.specs.World.{IsSure, file_of};
 ghost use Rattle.cckd_base.specs.Geometry.{IsLayout};
 ghost use Rattle.cckd_lines.specs.Lines.{LiesIn, IsShort};
 ghost use Rattle.cckd_top.specs.Opening.{IsBase};
-ghost use Rattle.cckd_top.specs.Serving.{ServesItems, ServesWhole, items_of_next, is_last};
+ghost use Rattle.cckd_top.specs.Serving.{Serves, ServesScript, items_of_next, is_last};
 
 use crate::answering::{answer_line, close, refuse};
 use cckd_base::Layout;
@@ -42,7 +42,7 @@ fn serve_next<T: Stage>(
     requires short { IsShort next }
     requires track { 65536 ≤ length track.old }
     requires output { LINE_ROOM ≤ length output.old }
-    ensures { ServesItems l.now (seen T.Shows stage.old) (seen T.Shows stage.new) (items_of_next room.now next) result }
+    ensures { Serves l.now (items_of_next room.now next) (seen T.Shows stage.old) (seen T.Shows stage.new) result }
 {
     match next {
         Next::Line { start, end } => answer_line(stage, base, l, &room[start..end], track, output),
@@ -83,7 +83,7 @@ pub fn serve<T: Stage>(
     requires room { LINE_LIMIT + 2 ≤ length room.old }
     requires track { 65536 ≤ length track.old }
     requires output { LINE_ROOM ≤ length output.old }
-    ensures { ServesWhole l.now limit (seen T.Shows stage.old) (seen T.Shows stage.new) result }
+    ensures { ServesScript l.now limit (seen T.Shows stage.old) (seen T.Shows stage.new) result }
 {
     let mut place = Place {
         start: 0,

@@ -1,9 +1,8 @@
-use Rattle.std.proofs.Common.{◌≡◌, ◌<◌, ◌-◌, ◌++◌, length, drop, Option, IfNone, MatchOption, ℕ, ◌∙◌, sym, ap, subst, arith}
+use Rattle.std.proofs.Common.{◌≡◌, ◌<◌, ◌-◌, length, drop, Option, IfNone, MatchOption, ℕ, ◌∙◌, sym, ap, subst, arith}
 use Rattle.std.proofs.lemmas.Bool.{false≢true}
 use Rattle.cckd_lines.specs.declared.lines.Place.{Place}
-use Rattle.cckd_lines.specs.declared.lines.Next.{Next}
 use Rattle.cckd_script.specs.Lines.{HasNoFeed}
-use Rattle.cckd_lines.specs.Lines.{IsFirstFeed, IsNext, BreaksOff, line_next, pending, allowance}
+use Rattle.cckd_lines.specs.Lines.{IsFirstFeed, IsNext, BreaksOff, line_next, held, pending}
 use Rattle.cckd_lines.proofs.FindLemmas.{finds_line, finds_last, finds_limit, finds_passed, breaks_off, breaks_off_later, if_ok_map, on_err_map, on_err}
 use Rattle.cckd_lines.proofs.lines.next_line.Goals as goal
 use Rattle.cckd_lines.proofs.lines.next_line.Goals.{else-place-via-then-place+else-len-eq0, else-place-via-else-place}
@@ -19,10 +18,10 @@ returns-in-Some-clause-next g c = λ told.
     let found = finds_line _ _ _ _ _ _ _ _ _ c.loop-at.invariant.0 at feed told in
     let start = (g.T.Shows.world c.args.stage.now).script in
     let left = (g.T.Shows.world c.loop-at.stage).script in
-    let whole = pending c.args.room.now c.args.place ++ start in
-    subst (λ (n : Next). IsNext room whole (pending room c.cut_off.result.1 ++ left) (allowance c.args.place) c.cut_off.result.1 n)
+    let begun = held c.args.room.now c.args.place start in
+    subst (IsNext begun (held room c.cut_off.result.1 left))
     (sym c.cut_off.ensures.next)
-    (subst (λ (p : Place). IsNext room whole (pending room p ++ left) (allowance c.args.place) p (line_next place.start at))
+    (subst (λ (p : Place). IsNext begun (held room p left) (line_next place.start at))
     (sym c.cut_off.ensures.place) found)
 
 pub returns-then-place-2-clause-next : goal.returns-then-place-2-clause-next
@@ -39,11 +38,11 @@ returns-then-place-2-clause-next g c = λ told.
     let found = finds_last _ _ _ _ _ _ _ _ _ c.loop-at.invariant.0 none c.if-place-2.true some_there told in
     let start = (g.T.Shows.world c.args.stage.now).script in
     let left = (g.T.Shows.world c.loop-at.stage).script in
-    let whole = pending c.args.room.now c.args.place ++ start in
+    let begun = held c.args.room.now c.args.place start in
     let cut = c.cut_off-then-place-2 in
-    subst (λ (n : Next). IsNext room whole (pending room cut.result.1 ++ left) (allowance c.args.place) cut.result.1 n)
+    subst (IsNext begun (held room cut.result.1 left))
     (sym cut.ensures.next)
-    (subst (λ (p : Place). IsNext room whole (pending room p ++ left) (allowance c.args.place) p (line_next place.start (place.end - place.start)))
+    (subst (λ (p : Place). IsNext begun (held room p left) (line_next place.start (place.end - place.start)))
     (sym cut.ensures.place) found)
 
 pub returns-then-len-gt-LINE_LIMIT-clause-next : goal.returns-then-len-gt-LINE_LIMIT-clause-next

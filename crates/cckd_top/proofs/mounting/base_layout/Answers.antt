@@ -2,8 +2,6 @@ use Rattle.std.proofs.Common.{refl, sym, ◌∙◌, ap, subst, arith}
 use Rattle.cckd_base.specs.declared.geometry.Layout.{Layout}
 use Rattle.cckd_base.specs.Geometry.{IsLayout}
 use Rattle.cckd_shelf.specs.World.{file_of}
-use Rattle.cckd_shelf.specs.declared.fault.Kind.TheVariants.{Reads}
-use Rattle.cckd_shelf.proofs.FaultLemmas.{fails_fell}
 use Rattle.cckd_top.proofs.HeaderLemmas.{filled, sound_headers, bad_headers}
 use Rattle.cckd_top.proofs.mounting.base_layout.Goals as goal
 
@@ -29,9 +27,3 @@ pub returns-in-Ok-decode-clause-area : goal.returns-in-Ok-decode-clause-area
 returns-in-Ok-decode-clause-area g c =
     let area = c.in-Ok-decode.ensures.area in
     omega (arith, area.0, ap (λ (x : Layout). x.groups) c.layout.ensures)
-
-pub returns-in-Ok-decode-clause-fell : goal.returns-in-Ok-decode-clause-fell
-returns-in-Ok-decode-clause-fell g c = fails_fell Reads c.read_headers.result _ _ c.read_headers.ensures.fails
-
-pub returns-in-Err-clause-fell : goal.returns-in-Err-clause-fell
-returns-in-Err-clause-fell g c = fails_fell Reads c.read_headers.result _ _ c.read_headers.ensures.fails

@@ -1,8 +1,8 @@
 use Rattle.std.specs.Prelude.{T}
 use Rattle.std.proofs.Common.{◌∙◌, inr}
-use Rattle.cckd_shelf.specs.World.{IsSure, file_of}
-use Rattle.cckd_shelf.proofs.FaultLemmas.{none_fell_twice, fails_fell}
-use Rattle.cckd_top.proofs.MountLemmas.{after_the_sync, same_disk, synced, halt_makes, base_is, shadow_is, sure_still, opens, opens_not_yet, halts}
+use Rattle.cckd_shelf.specs.World.{file_of}
+use Rattle.cckd_shelf.specs.Seen.{seen}
+use Rattle.cckd_top.proofs.MountLemmas.{after_the_sync, same_disk, synced, halt_makes, base_is, shadow_is, sure_still, opens, opens_not_yet, halts, counts_behind}
 use Rattle.cckd_top.proofs.mounting.mount.Goals as goal
 
 pub returns-in_default-opened-clause-cause : goal.returns-in_default-opened-clause-cause
@@ -12,12 +12,10 @@ returns-in_default-opened-clause-cause g c =
     let synced = g.T.Shows.world c.sync.new.self in
     let name = c.args.file.now in
     let disk = after_the_sync tells w (g.T.Shows.world c.bind_all.new.stage) synced name c.args.base c.requires.base c.in-Ok.ensures.idle c.in-Ok.ensures.named c.in-Ok-sync.ensures.synced in
-    halts (tells × IsSure w) (tells × IsSure synced) w name (file_of synced 0) (g.T.Shows.faults c.args.stage.now) (g.T.Shows.faults c.sync.new.self)
-    (g.T.Shows.faults c.open_base-opened.new.stage) c.open_base-opened.result
-    (λ t. (t.0, sure_still tells w synced name disk (g.T.Shows.tied c.sync.new.self) t.0 t.1))
-    (λ t. base_is tells w synced name disk (g.T.Shows.tied c.sync.new.self) t.0)
-    (none_fell_twice _ (g.T.Shows.faults c.bind_all.new.stage) _ (fails_fell _ _ _ _ c.in-Ok.ensures.fails) (fails_fell _ _ _ _ c.in-Ok-sync.ensures.fails))
-    c.open_base-opened.ensures.cause
+    halts g.T.Shows c.args.stage.now c.sync.new.self name
+    (λ t. sure_still tells w synced name disk (g.T.Shows.tied c.sync.new.self) t.0 t.1)
+    (λ t. base_is tells w synced name disk (g.T.Shows.tied c.sync.new.self) t)
+    c.open_base-opened.result c.open_base-opened.ensures.cause
 
 pub returns-in-Ok-false-clause-synced : goal.returns-in-Ok-false-clause-synced
 returns-in-Ok-false-clause-synced g c =
@@ -58,7 +56,7 @@ returns-in_default-opened-clause-makes g c =
     c.in-Ok.ensures.idle c.in-Ok.ensures.named c.in-Ok-sync.ensures.synced in
     let later = same_disk tells w (g.T.Shows.world c.sync.new.self) (g.T.Shows.world c.open_base-opened.new.stage) c.args.file.now disk
     c.open_base-opened.ensures.kept in
-    halt_makes tells w (g.T.Shows.world c.open_base-opened.new.stage) c.args.file.now later _ _ (g.T.Shows.faults c.sync.new.self) (g.T.Shows.faults c.open_base-opened.new.stage) c.open_base-opened.result
+    halt_makes tells w (g.T.Shows.world c.open_base-opened.new.stage) c.args.file.now later (seen g.T.Shows c.sync.new.self) c.open_base-opened.result
     c.open_base-opened.ensures.cause
 
 pub returns-in-Ok-false-clause-base : goal.returns-in-Ok-false-clause-base
@@ -108,3 +106,8 @@ returns-in-Ok-true-clause-cause g c = λ both.
     (c.in-Ok-opened.ensures.opened told sure_synced)
     (c.in-Ok-true.ensures.above told sure_based ∙ shadow_is tells w based name later (g.T.Shows.tied c.open_base-opened.new.stage) told)
     c.in-Ok-true.field-0-test
+
+pub returns-in_default-opened-clause-counts : goal.returns-in_default-opened-clause-counts
+returns-in_default-opened-clause-counts g c =
+    counts_behind c.open_base-opened.result (seen g.T.Shows c.args.stage.now) (seen g.T.Shows c.sync.new.self)
+    (seen g.T.Shows c.open_base-opened.new.stage) (c.in-Ok-sync.ensures.fails.still ∙ c.in-Ok.ensures.fails.still) c.open_base-opened.ensures.counts
