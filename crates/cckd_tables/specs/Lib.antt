@@ -1,3 +1,5 @@
 pub mod Inside
 pub mod Kept
 pub mod Scan
+pub mod Staging
+pub mod Tables

@@ -5,9 +5,11 @@ mod item;
 mod kept;
 mod progress;
 mod read;
+mod staged;
 mod surveyed;
 #[cfg(test)]
 mod tests;
 
 pub use cckd_base::{Extent, Layout, Misfit, Owner, ScanFault};
+pub use staged::{StagedEntry, StagedWord};
 pub use surveyed::{SurveyFault, Surveyed, scan, survey};
