@@ -1,5 +1,6 @@
 pub mod Blend
 pub mod Commit
+pub mod Device
 pub mod Inside
 pub mod Kept
 pub mod Scan
