@@ -8,3 +8,5 @@ pub mod ItemLemmas
 pub mod FormedLemmas
 pub mod FileLemmas
 pub mod SurveyLemmas
+pub mod StagedLemmas
+pub mod WrittenLemmas
