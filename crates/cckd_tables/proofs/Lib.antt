@@ -10,3 +10,4 @@ pub mod FileLemmas
 pub mod SurveyLemmas
 pub mod StagedLemmas
 pub mod WrittenLemmas
+pub mod BlendLemmas

@@ -1,4 +1,5 @@
 pub mod Blend
+pub mod Cells
 pub mod Commit
 pub mod Device
 pub mod Inside
