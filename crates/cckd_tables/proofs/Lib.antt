@@ -11,3 +11,6 @@ pub mod SurveyLemmas
 pub mod StagedLemmas
 pub mod WrittenLemmas
 pub mod BlendLemmas
+pub mod TableLoopLemmas
+pub mod WordLoopLemmas
+pub mod EntryLoopLemmas

@@ -1,5 +1,5 @@
 -- What the single steps of a commit take and keep.
-use Rattle.std.specs.Prelude.{◌≡◌, ◌⊎◌, ℕ, ◌+◌, ◌*◌, ◌<◌, ◌≤◌, List, length, map, take, slice_index, Some, Result, OnOk, OnErr}
+use Rattle.std.specs.Prelude.{◌≡◌, ◌⊎◌, ℕ, ◌+◌, ◌*◌, ◌/◌, ◌%◌, ◌<◌, ◌≤◌, List, length, take, slice_index, Some, Result, OnOk, OnErr}
 use Rattle.cckd_base.specs.declared.geometry.Layout.{Layout}
 use Rattle.cckd_base.specs.declared.entry.L2Entry.{L2Entry}
 use Rattle.cckd_base.specs.Geometry.{track_count, IsLayout}
@@ -14,7 +14,7 @@ use Rattle.cckd_tables.specs.declared.staged.StagedEntry.{StagedEntry}
 use Rattle.cckd_tables.specs.declared.staged.StagedWord.{StagedWord}
 use Rattle.cckd_tables.specs.Staging.{Stages, entry_for, place_for, new_word}
 use Rattle.cckd_tables.specs.Blend.{Blend}
-use Rattle.cckd_tables.specs.Commit.{CanMove, CanBlend}
+use Rattle.cckd_tables.specs.Commit.{staged_places, CanMove, CanBlend}
 
 -- one call that writes these bytes at a position of a slot
 pub record OneWrite (slot position : ℕ) (bytes : List ℕ) (result : Result (Unit {0}) Failed) (old new : Seen) : Type 0 where
@@ -33,17 +33,21 @@ pub record IsReady (l : Layout) (stages : Stages) (was : List ℕ) : Type 0 wher
 abbrev pub AreDisjoint : List StagedWord → Type 0
 AreDisjoint words =
     (i j : ℕ) → i < j → j < length words
-    → ShareNoByte (slice_index (map (λ s. s.pos) words) i) 2048 (slice_index (map (λ s. s.pos) words) j) 2048
+    → ShareNoByte (slice_index (staged_places words) i) 2048 (slice_index (staged_places words) j) 2048
 
 -- the tables of the first n staged words stand at their places
 pub record AreTablesWritten (words : List StagedWord) (tables : List ℕ) (n : ℕ) (file : List ℕ) : Type 0 where
-  pub within : (i : ℕ) → i < n → slice_index (map (λ s. s.pos) words) i + 2048 ≤ length file
-  pub bytes : (i : ℕ) → i < n → bytes_at file (slice_index (map (λ s. s.pos) words) i) 2048 ≡ bytes_at tables (2048 * i) 2048
+  pub within : (i : ℕ) → i < n → slice_index (staged_places words) i + 2048 ≤ length file
+  pub bytes : (i : ℕ) → i < n → bytes_at file (slice_index (staged_places words) i) 2048 ≡ bytes_at tables (2048 * i) 2048
 
 -- the first n staged words are written
 pub record AreWordsWritten (l : Layout) (was : List ℕ) (stages : Stages) (n : ℕ) (file : List ℕ) : Type 0 where
   pub blend : Blend l was stages file
-  pub words : (g p : ℕ) → place_for g (take n stages.words) ≡ Some p → word_at l file g ≡ p
+  pub words : (g p : ℕ) → g < l.groups → place_for g (take n stages.words) ≡ Some p → word_at l file g ≡ p
+
+-- where the entry of a track stands, by the level-one words
+abbrev pub cell : List ℕ → ℕ → ℕ
+cell words t = slice_index words (t / 256) + 8 * (t % 256)
 
 -- all words are, and the first n staged entries
 pub record AreEntriesWritten (l : Layout) (was : List ℕ) (stages : Stages) (n : ℕ) (file : List ℕ) : Type 0 where

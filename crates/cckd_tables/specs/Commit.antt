@@ -13,21 +13,34 @@ use Rattle.cckd_shelf.specs.Events.{Event}
 use Rattle.cckd_shelf.specs.World.{IsSure, file_of}
 use Rattle.cckd_shelf.specs.Outcomes.{IsOutcome}
 use Rattle.cckd_shelf.specs.Seen.{Seen, Tells}
+use Rattle.cckd_tables.specs.declared.staged.StagedEntry.{StagedEntry}
+use Rattle.cckd_tables.specs.declared.staged.StagedWord.{StagedWord}
 use Rattle.cckd_tables.specs.Staging.{Stages, IsStaged, IsMoved, new_entry, new_word}
 use Rattle.cckd_tables.specs.Tables.{HasWords}
 use Rattle.cckd_tables.specs.Blend.{Near, HasNewTables, Blend, IsCommitted}
 
+-- the tracks of staged entries
+abbrev pub staged_tracks : List StagedEntry → List ℕ
+staged_tracks entries = map (λ s. s.track) entries
+
+-- the groups of staged words, and the places that the words name
+abbrev pub staged_groups : List StagedWord → List ℕ
+staged_groups words = map (λ s. s.group) words
+
+abbrev pub staged_places : List StagedWord → List ℕ
+staged_places words = map (λ s. s.pos) words
+
 -- what is staged is of tracks and groups that there are, each once and in their order
 pub record AreInOrder (l : Layout) (stages : Stages) : Type 0 where
-  pub tracks : IsStrictlyIncreasing (map (λ s. s.track) stages.entries)
-  pub groups : IsStrictlyIncreasing (map (λ s. s.group) stages.words)
+  pub tracks : IsStrictlyIncreasing (staged_tracks stages.entries)
+  pub groups : IsStrictlyIncreasing (staged_groups stages.words)
   pub tracks_there : AllByRecursion (λ s. s.track < track_count l.geo) stages.entries
   pub groups_there : AllByRecursion (λ s. s.group < l.groups) stages.words
 
 -- of 2,048 bytes for each staged word, in their order, each table spells the new entries of the 256 places of its group
 abbrev pub AreSpelled : Layout → Stages → List ℕ → List ℕ → Type 0
 AreSpelled l stages was tables =
-    (i : ℕ) → i < length stages.words → (t : ℕ) → t / 256 ≡ slice_index (map (λ s. s.group) stages.words) i
+    (i : ℕ) → i < length stages.words → (t : ℕ) → t / 256 ≡ slice_index (staged_groups stages.words) i
     → entry_in_table l tables (2048 * i) t ≡ new_entry l stages was t
 
 -- the spaces of two entries share no byte

@@ -1,6 +1,8 @@
 //! The two-level tables of one image: the survey of all that they name.
 #![tactic(auto)]
 
+mod cell;
+mod committing;
 mod device;
 mod item;
 mod kept;
