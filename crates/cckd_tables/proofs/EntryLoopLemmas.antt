@@ -11,7 +11,8 @@ use Rattle.cckd_shelf.specs.World.{file_of}
 use Rattle.cckd_shelf.specs.Seen.{Seen, Tells}
 use Rattle.cckd_shelf.specs.Outcomes.{WriteLeaves, EachOutcome}
 use Rattle.cckd_shelf.specs.Stops.{StopLeaves, StopsLeave}
-use Rattle.cckd_shelf.proofs.MomentLemmas.{at_once}
+use Rattle.cckd_shelf.specs.Events.{Event}
+use Rattle.cckd_shelf.proofs.MomentLemmas.{at_once, at_end, joins}
 use Rattle.cckd_base.specs.declared.geometry.Layout.{Layout}
 use Rattle.cckd_base.specs.declared.entry.L2Entry.{L2Entry}
 use Rattle.cckd_base.specs.Geometry.{track_count}
@@ -27,7 +28,7 @@ use Rattle.cckd_tables.specs.Cells.{OneWrite, IsReady, AreWordsWritten, AreEntri
 use Rattle.cckd_tables.proofs.StagedLemmas.{some_or_none, one_value, new_entry_at, new_entry_plain, entry_own, all_at}
 use Rattle.cckd_tables.proofs.WrittenLemmas.{group_low}
 use Rattle.cckd_tables.proofs.BlendLemmas.{blend_entry, entry_written, new_table_stays}
-use Rattle.cckd_tables.proofs.TableLoopLemmas.{Went, went_nowhere, went_more, stop_then, file_then}
+use Rattle.cckd_tables.proofs.TableLoopLemmas.{Went, went_nowhere, went_then}
 use Rattle.cckd_tables.proofs.WordLoopLemmas.{one_more, all_words}
 
 entry_in_front : (ss : List StagedEntry) (n t : ℕ) (e : L2Entry) → entry_for t (take n ss) ≡ Some e → entry_for t ss ≡ Some e
@@ -76,7 +77,7 @@ moved_entry l was stages file t ready b low moved word =
     ∙ (by_table l file (new_word l stages was (t / 256)) t (ready.can_blend.places (t / 256) (group_low l t ready.layout low) moved)
     ∙ new_table_stays l stages was file t ready b low moved)
 
-entries_skip : (l : Layout) (was : List ℕ) (stages : Stages) (i : ℕ) (d : StagedEntry) (file : List ℕ) → IsReady l stages was → IsStrictlyIncreasing (staged_tracks stages.entries)
+pub entries_skip : (l : Layout) (was : List ℕ) (stages : Stages) (i : ℕ) (d : StagedEntry) (file : List ℕ) → IsReady l stages was → IsStrictlyIncreasing (staged_tracks stages.entries)
     → AllByRecursion (λ s. s.track < track_count l.geo) stages.entries → i < length stages.entries → IsMoved ((get_or stages.entries i d).track / 256) stages
     → AreEntriesWritten l was stages i file → AreEntriesWritten l was stages (i + 1) file
 entries_skip l was stages i d file ready order there low moved h =
@@ -87,16 +88,7 @@ entries_skip l was stages i d file ready order there low moved h =
     ∙ new_entry_at l stages was s.track s.entry (entry_own stages.entries i d order low))
     (λ u below other. refl)
 
-entry_left : (l : Layout) (was bytes : List ℕ) (stages : Stages) (t : ℕ) (e : L2Entry) → IsReady l stages was → t < track_count l.geo → entry_for t stages.entries ≡ Some e → (IsMoved (t / 256) stages → ⊥)
-    → length bytes ≡ 8 → entry_of l.order bytes ≡ e → (old file : List ℕ) → Blend l was stages old → WriteLeaves (word_at l was (t / 256) + 8 * (t % 256)) bytes old file → Blend l was stages file
-entry_left l was bytes stages t e ready low own not eight spelled old file b leaves =
-    let k = ready.can_blend.tabled t low (ap is_some own) not in
-    elim (leaves.whole (omega (arith, eight, k.1))) [
-      | inl same ↦ subst (Blend l was stages) (sym same) b
-      | inr made ↦ subst (Blend l was stages) (sym made) (blend_entry l was bytes stages old t e ready low own not eight spelled b)
-    ]
-
-entries_more : (l : Layout) (was bytes : List ℕ) (stages : Stages) (i : ℕ) (d : StagedEntry) (file : List ℕ) → IsReady l stages was → IsStrictlyIncreasing (staged_tracks stages.entries)
+pub entries_more : (l : Layout) (was bytes : List ℕ) (stages : Stages) (i : ℕ) (d : StagedEntry) (file : List ℕ) → IsReady l stages was → IsStrictlyIncreasing (staged_tracks stages.entries)
     → AllByRecursion (λ s. s.track < track_count l.geo) stages.entries → i < length stages.entries → (IsMoved ((get_or stages.entries i d).track / 256) stages → ⊥)
     → length bytes ≡ 8 → entry_of l.order bytes ≡ (get_or stages.entries i d).entry
     → AreEntriesWritten l was stages i file
@@ -109,9 +101,6 @@ entries_more l was bytes stages i d file ready order there low not eight spelled
     entries_by l was stages i d file (overlaid file (word_at l was (s.track / 256) + 8 * (s.track % 256)) bytes) order low h
     (blend_entry l was bytes stages file s.track s.entry ready inside own not eight spelled h.blend) r.words r.here r.others
 
-
-cell_is : (l : Layout) (words was : List ℕ) (t : ℕ) → HasWords l words was → t / 256 < l.groups → word_at l was (t / 256) + 8 * (t % 256) ≡ cell words t
-cell_is l words was t has low = ap (λ (w : ℕ). w + 8 * (t % 256)) (has (t / 256) low)
 
 -- the first n entries are written, or stand in new tables
 pub record EntriesSoFar (l : Layout) (slot : ℕ) (words : List ℕ) (stages : Stages) (n : ℕ) (old new : Seen) : Type 0 where
@@ -127,42 +116,25 @@ entries_first l slot words stages s = record {
   went = went_nowhere slot s;
 }
 
-module _ (l : Layout) (slot : ℕ) (words : List ℕ) (stages : Stages) (i : ℕ) (d : StagedEntry) (old mid : Seen)
-    (order : IsStrictlyIncreasing (staged_tracks stages.entries)) (there : AllByRecursion (λ s. s.track < track_count l.geo) stages.entries) (low : i < length stages.entries)
-    (so : EntriesSoFar l slot words stages i old mid) where
-  -- the entry of a moved group needs no write
-  pub entries_skipped : IsMoved ((get_or stages.entries i d).track / 256) stages → EntriesSoFar l slot words stages (i + 1) old mid
-  entries_skipped moved = record {
-    stopped = so.stopped;
-    now = λ was ready has told h. entries_skip l was stages i d (file_of mid.world slot) ready order there low moved (so.now was ready has told h);
-    went = so.went;
-  }
+-- a stretch more
+pub entries_stopped : (l : Layout) (slot : ℕ) (words : List ℕ) (stages : Stages) (n : ℕ) (old mid new : Seen) → (Tells old → Tells mid) → EntriesSoFar l slot words stages n old mid
+    → ((was : List ℕ) → IsReady l stages was → HasWords l words was → StopLeaves slot (Blend l was stages) mid → StopsLeave slot (Blend l was stages) mid new)
+    → (was : List ℕ) → IsReady l stages was → HasWords l words was → StopLeaves slot (Blend l was stages) old → StopsLeave slot (Blend l was stages) old new
+entries_stopped l slot words stages n old mid new tells so step = λ was ready has each told.
+    let Q : List Event → Type 0 = EachOutcome slot (Blend l was stages) in
+    let first = so.stopped was ready has each told in
+    joins Q old.world.events mid.world.events new.world.events first
+    (step was ready has (λ here. at_end Q old.world.events mid.world.events first) (tells told))
 
-  module _ (bytes : List ℕ) (new : Seen) (tells : Tells old → Tells mid) (not : IsMoved ((get_or stages.entries i d).track / 256) stages → ⊥)
-      (eight : length bytes ≡ 8) (spelled : entry_of l.order bytes ≡ (get_or stages.entries i d).entry) where
-    pub entries_stopped : (result : Result (Unit {0}) Failed) → OneWrite slot (cell words (get_or stages.entries i d).track) bytes result mid new
-        → (was : List ℕ) → IsReady l stages was → HasWords l words was → StopLeaves slot (Blend l was stages) old → StopsLeave slot (Blend l was stages) old new
-    entries_stopped result one = λ was ready has each.
-        let s = get_or stages.entries i d in
-        let inside : s.track < track_count l.geo = all_at (λ (x : StagedEntry). x.track < track_count l.geo) stages.entries i d there low in
-        let place = cell_is l words was s.track has (group_low l s.track ready.layout inside) in
-        stop_then (Blend l was stages) slot (cell words s.track) bytes old mid new result tells one
-        (λ before file b leaves. entry_left l was bytes stages s.track s.entry ready inside (entry_own stages.entries i d order low) not eight spelled before file b
-        (subst (λ (n : ℕ). WriteLeaves n bytes before file) (sym place) leaves))
-        (so.stopped was ready has each)
-
-    pub entries_next : OneWrite slot (cell words (get_or stages.entries i d).track) bytes (Ok tt) mid new → EntriesSoFar l slot words stages (i + 1) old new
-    entries_next one = record {
-      stopped = entries_stopped (Ok tt) one;
-      now = λ was ready has told h.
-          let s = get_or stages.entries i d in
-          let inside : s.track < track_count l.geo = all_at (λ (x : StagedEntry). x.track < track_count l.geo) stages.entries i d there low in
-          let place = cell_is l words was s.track has (group_low l s.track ready.layout inside) in
-          subst (AreEntriesWritten l was stages (i + 1)) (sym (file_then slot (cell words s.track) bytes mid new one (tells told)))
-          (subst (λ (n : ℕ). AreEntriesWritten l was stages (i + 1) (overlaid (file_of mid.world slot) n bytes)) place
-          (entries_more l was bytes stages i d (file_of mid.world slot) ready order there low not eight spelled (so.now was ready has told h)));
-      went = went_more slot (cell words (get_or stages.entries i d).track) bytes old mid new tells one so.went;
-    }
+pub entries_then : (l : Layout) (slot : ℕ) (words : List ℕ) (stages : Stages) (n m : ℕ) (old mid new : Seen) → (Tells old → Tells mid) → EntriesSoFar l slot words stages n old mid
+    → ((was : List ℕ) → IsReady l stages was → HasWords l words was → StopLeaves slot (Blend l was stages) mid → StopsLeave slot (Blend l was stages) mid new)
+    → ((was : List ℕ) → IsReady l stages was → HasWords l words was → Tells mid → AreEntriesWritten l was stages n (file_of mid.world slot) → AreEntriesWritten l was stages m (file_of new.world slot))
+    → Went slot mid new → EntriesSoFar l slot words stages m old new
+entries_then l slot words stages n m old mid new tells so stopped now went = record {
+  stopped = entries_stopped l slot words stages n old mid new tells so stopped;
+  now = λ was ready has told h. now was ready has (tells told) (so.now was ready has told h);
+  went = went_then slot old mid new tells so.went went;
+}
 
 -- after the words no entry is written yet
 pub words_entered : (l : Layout) (was : List ℕ) (stages : Stages) (file : List ℕ) → AreWordsWritten l was stages (length stages.words) file → AreEntriesWritten l was stages 0 file

@@ -14,3 +14,5 @@ pub mod BlendLemmas
 pub mod TableLoopLemmas
 pub mod WordLoopLemmas
 pub mod EntryLoopLemmas
+pub mod EntryRunLemmas
+pub mod PutRunLemmas

@@ -139,3 +139,11 @@ pub all_at : {X : Type 0} (P : X → Type 0) (xs : List X) (i : ℕ) (d : X) →
 all_at P [] i d h low = absurd (omega (arith, low))
 all_at P (x ∷ xs) zero d h low = h.0
 all_at P (x ∷ xs) (suc i) d h low = all_at P xs i d h.1 (omega (arith, low))
+
+-- a test that came out false didn't come out true
+pub true_not_false : (b : Bool) → b ≡ false → b ≡ true → ⊥
+true_not_false b e h = let k : false ≡ true = sym e ∙ h in cc
+
+-- the track at a place of a list
+pub track_of : (ss : List StagedEntry) (i : ℕ) (d : StagedEntry) → i < length ss → slice_index (map (λ s. s.track) ss) i ≡ (get_or ss i d).track
+track_of ss i d low = get_or-map (λ (s : StagedEntry). s.track) ss i d 0 low

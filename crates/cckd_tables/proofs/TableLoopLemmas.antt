@@ -54,6 +54,14 @@ went_more slot position bytes old mid new tells one went = record {
   counts = one.fails.still ∙ went.counts;
 }
 
+-- a stretch more
+pub went_then : (slot : ℕ) (old mid new : Seen) → (Tells old → Tells mid) → Went slot old mid → Went slot mid new → Went slot old new
+went_then slot old mid new tells first second = record {
+  sure = λ told sure. second.sure (tells told) (first.sure told sure);
+  others = only_twice slot old mid new tells first.others second.others;
+  counts = second.counts ∙ first.counts;
+}
+
 -- a call that failed after others that were Ok
 pub fails_then : {A : Type 0} (kind : Kind) (result : Result A Failed) (old mid new : Seen) → mid.faults ≡ old.faults → Fails kind result mid new → Fails kind result old new
 fails_then kind (Ok value) old mid new same f = record { still = f.still ∙ same; rose = tt }

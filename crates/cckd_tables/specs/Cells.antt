@@ -1,10 +1,11 @@
 -- What the single steps of a commit take and keep.
-use Rattle.std.specs.Prelude.{◌≡◌, ◌⊎◌, ℕ, ◌+◌, ◌*◌, ◌/◌, ◌%◌, ◌<◌, ◌≤◌, List, length, take, slice_index, Some, Result, OnOk, OnErr}
+use Rattle.std.specs.Prelude.{◌≡◌, ◌⊎◌, ℕ, ◌+◌, ◌*◌, ◌/◌, ◌%◌, ◌<◌, ◌≤◌, List, [], ◌∷◌, ◌++◌, length, take, slice_index, Some, Result, OnOk, OnErr}
+use Rattle.cckd_base.specs.declared.order.Order.{Order}
 use Rattle.cckd_base.specs.declared.geometry.Layout.{Layout}
 use Rattle.cckd_base.specs.declared.entry.L2Entry.{L2Entry}
 use Rattle.cckd_base.specs.Geometry.{track_count, IsLayout}
 use Rattle.cckd_base.specs.Numbers.{bytes_at}
-use Rattle.cckd_base.specs.Entry.{word_at, entry_at}
+use Rattle.cckd_base.specs.Entry.{word_at, entry_at, entry_of, entry_bytes}
 use Rattle.cckd_base.specs.Image.{ShareNoByte, IsImage}
 use Rattle.cckd_shelf.specs.declared.fault.Failed.{Failed}
 use Rattle.cckd_shelf.specs.declared.fault.Kind.TheVariants.{Writes}
@@ -48,6 +49,26 @@ pub record AreWordsWritten (l : Layout) (was : List ℕ) (stages : Stages) (n : 
 -- where the entry of a track stands, by the level-one words
 abbrev pub cell : List ℕ → ℕ → ℕ
 cell words t = slice_index words (t / 256) + 8 * (t % 256)
+
+-- eight bytes spell an entry
+pub record IsEncoded (order : Order) (e : L2Entry) : Type 0 where
+  pub size : length (entry_bytes order e) ≡ 8
+  pub decoded : entry_of order (entry_bytes order e) ≡ e
+
+-- the bytes of staged entries, one after another
+abbrev pub run_bytes : Order → List StagedEntry → List ℕ
+run_bytes order [] = []
+run_bytes order (s ∷ ss) = entry_bytes order s.entry ++ run_bytes order ss
+
+-- The n staged entries from one on are of neighbouring tracks of one group. Where that one stands at a multiple of 8, they stand in one
+-- sector.
+pub record IsRun (tracks : List ℕ) (first n at : ℕ) : Type 0 where
+  pub some : 0 < n
+  pub within : first + n ≤ length tracks
+  pub neighbours : (i : ℕ) → i < n → slice_index tracks (first + i) ≡ slice_index tracks first + i
+  pub group : slice_index tracks first % 256 + n ≤ 256
+  pub few : n ≤ 64
+  pub sector : at % 8 ≡ 0 → at % 512 + 8 * n ≤ 512
 
 -- all words are, and the first n staged entries
 pub record AreEntriesWritten (l : Layout) (was : List ℕ) (stages : Stages) (n : ℕ) (file : List ℕ) : Type 0 where

@@ -1,14 +1,25 @@
-//! The single writes of a commit: a new table, a level-one word, an entry. Each is one call of the shelf.
-ghost use Rattle.std.specs.Prelude.{◌≡◌, ◌+◌, ◌*◌, ◌≤◌, length};
+//! The single writes of a commit: a new table, a level-one word, entries side by side. Each is one call of the shelf.
+ghost use Rattle.std.specs.Prelude.{◌≡◌, ◌+◌, ◌*◌, ◌/◌, ◌^◌, ◌<◌, ◌≤◌, length};
 ghost use Rattle.std.specs.Int.{w32};
+ghost use Rattle.std.specs.List.{AllByRecursion};
 ghost use Rattle.cckd_shelf.specs.Seen.{seen};
 ghost use Rattle.cckd_base.specs.Numbers.{bytes_of, number_of};
-ghost use Rattle.cckd_base.specs.Entry.{entry_of, entry_bytes};
-ghost use Rattle.cckd_tables.specs.Cells.{OneWrite};
+ghost use Rattle.cckd_tables.specs.Cells.{OneWrite, IsEncoded, cell, run_bytes};
 
-use crate::staged::StagedWord;
-use cckd_base::{L2Entry, Order, WORDS_AT};
+use crate::staged::{StagedEntry, StagedWord};
+use crate::table::put_run;
+use cckd_base::{GROUP_TRACKS, Order, WORDS_AT};
 use cckd_shelf::{Failed, Shelf, Slot};
+
+/// Where the entry of a track stands, by the level-one words.
+pub(crate) fn cell(words: &[u32], track: u32) -> u64
+    requires { track / 256 < length words.now }
+    ensures value { result ≡ cell words.now track }
+    ensures within { result < 2 ^ 33 }
+{
+    let word = words[(track / GROUP_TRACKS) as usize];
+    u64::from(word) + 8 * u64::from(track % GROUP_TRACKS)
+}
 
 /// Writes a new table to its place.
 pub(crate) fn write_table<S: Shelf>(
@@ -39,19 +50,20 @@ pub(crate) fn write_word<S: Shelf>(
     shelf.write(slot, at, &bytes)
 }
 
-/// Writes a track's entry at its place in a table.
-pub(crate) fn write_entry<S: Shelf>(
+/// Writes entries side by side, from a place in a table on.
+pub(crate) fn write_run<S: Shelf>(
     shelf: &mut S,
     slot: Slot,
     order: Order,
     at: u64,
-    entry: L2Entry,
+    run: &[StagedEntry],
 ) -> Result<(), Failed>
-    requires { at ≤ 4294969335 }
-    ensures write { OneWrite slot at (entry_bytes order entry) result (seen S.Shows shelf.old) (seen S.Shows shelf.new) }
-    ensures size { length (entry_bytes order entry) ≡ 8 }
-    ensures spelled { entry_of order (entry_bytes order entry) ≡ entry }
+    requires few { length run.now ≤ 64 }
+    requires place { at < 2 ^ 33 }
+    ensures write { OneWrite slot at (run_bytes order run.now) result (seen S.Shows shelf.old) (seen S.Shows shelf.new) }
+    ensures encoded { AllByRecursion (λ s. IsEncoded order s.entry) run.now }
 {
-    let bytes = entry.encode(order);
-    shelf.write(slot, at, &bytes)
+    let mut bytes = [0; 512];
+    put_run(order, run, &mut bytes);
+    shelf.write(slot, at, &bytes[..8 * run.len()])
 }

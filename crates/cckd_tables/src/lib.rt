@@ -2,14 +2,16 @@
 #![tactic(auto)]
 
 mod cell;
-mod committing;
+mod commit;
 mod device;
+mod entries;
 mod item;
 mod kept;
 mod progress;
 mod read;
 mod staged;
 mod surveyed;
+mod table;
 #[cfg(test)]
 mod tests;
 

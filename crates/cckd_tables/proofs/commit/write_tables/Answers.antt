@@ -2,7 +2,7 @@ use Rattle.std.proofs.Common.{◌≡◌, ◌*◌, length, sym, ◌∙◌, ap, ar
 use Rattle.cckd_shelf.specs.Seen.{seen}
 use Rattle.cckd_tables.specs.declared.staged.StagedWord.{StagedWord}
 use Rattle.cckd_tables.proofs.TableLoopLemmas.{tables_stopped, tables_next, table_part, table_long, write_others, fails_then}
-use Rattle.cckd_tables.proofs.committing.write_tables.Goals as goal
+use Rattle.cckd_tables.proofs.commit.write_tables.Goals as goal
 
 abbrev blank : StagedWord
 blank = record { group = 0; pos = 0 }

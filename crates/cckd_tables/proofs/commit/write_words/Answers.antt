@@ -2,7 +2,7 @@ use Rattle.cckd_shelf.specs.Seen.{seen}
 use Rattle.cckd_tables.specs.declared.staged.StagedWord.{StagedWord}
 use Rattle.cckd_tables.proofs.TableLoopLemmas.{write_others}
 use Rattle.cckd_tables.proofs.WordLoopLemmas.{words_stopped, words_next}
-use Rattle.cckd_tables.proofs.committing.write_words.Goals as goal
+use Rattle.cckd_tables.proofs.commit.write_words.Goals as goal
 
 abbrev blank : StagedWord
 blank = record { group = 0; pos = 0 }
