@@ -111,9 +111,9 @@ blend_word l was bytes stages file g p ready low own four spelled b =
       words = λ h there. elim (cases_eq g h) [
         | inl same ↦ subst (λ (x : ℕ). (word_at l new x ≡ word_at l was x) ⊎ (word_at l new x ≡ new_word l stages was x)) same (inr (r.word ∙ sym is))
         | inr other ↦ elim (b.words h there) [
-            | inl e ↦ inl (r.others h there other ∙ e)
-            | inr e ↦ inr (r.others h there other ∙ e)
-          ]
+          | inl e ↦ inl (r.others h there other ∙ e)
+          | inr e ↦ inr (r.others h there other ∙ e)
+        ]
       ];
       entries = λ t there. elim (cases_eq g (t / 256)) [
         | inl same ↦
@@ -122,9 +122,9 @@ blend_word l was bytes stages file g p ready low own four spelled b =
             ∙ (ap (λ (w : ℕ). entry_in_table l file w t) (sym is ∙ ap (new_word l stages was) same)
             ∙ new_table_stays l stages was file t ready b there here))
         | inr other ↦ elim (b.entries t there) [
-            | inl e ↦ inl (r.entries t there other ∙ e)
-            | inr e ↦ inr (r.entries t there other ∙ e)
-          ]
+          | inl e ↦ inl (r.entries t there other ∙ e)
+          | inr e ↦ inr (r.entries t there other ∙ e)
+        ]
       ];
     }
 
@@ -164,9 +164,9 @@ blend_entry l was bytes stages file t e ready low own not eight spelled b =
         | inl here ↦ subst (λ (x : ℕ). (entry_at l new x ≡ entry_at l was x) ⊎ (entry_at l new x ≡ new_entry l stages was x)) here
             (inr (r.here ∙ sym (new_entry_at l stages was t e own)))
         | inr other ↦ elim (b.entries u there) [
-            | inl x ↦ inl (r.others u there other ∙ x)
-            | inr x ↦ inr (r.others u there other ∙ x)
-          ]
+          | inl x ↦ inl (r.others u there other ∙ x)
+          | inr x ↦ inr (r.others u there other ∙ x)
+        ]
       ];
     }
 

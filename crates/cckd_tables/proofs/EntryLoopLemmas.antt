@@ -101,7 +101,6 @@ entries_more l was bytes stages i d file ready order there low not eight spelled
     entries_by l was stages i d file (overlaid file (word_at l was (s.track / 256) + 8 * (s.track % 256)) bytes) order low h
     (blend_entry l was bytes stages file s.track s.entry ready inside own not eight spelled h.blend) r.words r.here r.others
 
-
 -- the first n entries are written, or stand in new tables
 pub record EntriesSoFar (l : Layout) (slot : ℕ) (words : List ℕ) (stages : Stages) (n : ℕ) (old new : Seen) : Type 0 where
   pub stopped : (was : List ℕ) → IsReady l stages was → HasWords l words was → StopLeaves slot (Blend l was stages) old → StopsLeave slot (Blend l was stages) old new
@@ -152,8 +151,8 @@ all_entered l was stages file h = record {
   entries = λ t low. elim (some_or_none (entry_for t stages.entries)) [
     | inl k ↦ h.entries t k.0 low (ap (entry_for t) (take_all (length stages.entries) stages.entries (omega arith)) ∙ k.1) ∙ sym (new_entry_at l stages was t k.0 k.1)
     | inr none ↦ elim (h.blend.entries t low) [
-        | inl e ↦ e ∙ sym (new_entry_plain l stages was t none)
-        | inr e ↦ e
-      ]
+      | inl e ↦ e ∙ sym (new_entry_plain l stages was t none)
+      | inr e ↦ e
+    ]
   ];
 }

@@ -16,3 +16,4 @@ pub mod WordLoopLemmas
 pub mod EntryLoopLemmas
 pub mod EntryRunLemmas
 pub mod PutRunLemmas
+pub mod CommitLemmas

@@ -122,7 +122,7 @@ pub all_words : (l : Layout) (was : List ℕ) (stages : Stages) (file : List ℕ
 all_words l was stages file h g low = elim (some_or_none (place_for g stages.words)) [
   | inl k ↦ h.words g k.0 low (ap (place_for g) (take_all (length stages.words) stages.words (omega arith)) ∙ k.1) ∙ sym (new_word_at l stages was g k.0 k.1)
   | inr none ↦ elim (h.blend.words g low) [
-      | inl e ↦ e ∙ sym (ap (λ (o : Option ℕ). unwrap_or o (word_at l was g)) none)
-      | inr e ↦ e
-    ]
+    | inl e ↦ e ∙ sym (ap (λ (o : Option ℕ). unwrap_or o (word_at l was g)) none)
+    | inr e ↦ e
+  ]
 ]

@@ -16,6 +16,7 @@ mod table;
 mod tests;
 
 pub use cckd_base::{Extent, Layout, Misfit, Owner, ScanFault};
+pub use commit::Commit;
 pub use device::Device;
 pub use staged::{StagedEntry, StagedWord};
 pub use surveyed::{SurveyFault, Surveyed, scan, survey};

@@ -9,7 +9,7 @@ use Rattle.cckd_tables.proofs.entries.run_len.Goals as goal
 pub loop-count-preserved : goal.loop-count-preserved
 loop-count-preserved c = λ i low. elim (cases_lt i c.loop-count.count) [
   | inl lt ↦ c.loop-count.invariant i lt
-  | inr ge ↦ 
+  | inr ge ↦
       let blank : StagedEntry = record { track = 0; entry = record { pos = 0; len = 0; size = 0 } } in
       let at : i ≡ c.loop-count.count = omega (arith, low, ge) in
       let here : slice_index (staged_tracks c.args.entries.now) (c.args.first + c.loop-count.count) ≡ slice_index (staged_tracks c.args.entries.now) c.args.first + c.loop-count.count =
