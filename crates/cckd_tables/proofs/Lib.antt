@@ -18,3 +18,4 @@ pub mod EntryRunLemmas
 pub mod PutRunLemmas
 pub mod CommitLemmas
 pub mod TableLemmas
+pub mod FreshLemmas
