@@ -13,6 +13,7 @@ pub mod WrittenLemmas
 pub mod BlendLemmas
 pub mod TableLoopLemmas
 pub mod WordLoopLemmas
+pub mod PutOverLemmas
 pub mod EntryLoopLemmas
 pub mod EntryRunLemmas
 pub mod PutRunLemmas
