@@ -20,3 +20,4 @@ pub mod PutRunLemmas
 pub mod CommitLemmas
 pub mod TableLemmas
 pub mod FreshLemmas
+pub mod MixtureLemmas
