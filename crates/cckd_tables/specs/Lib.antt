@@ -2,5 +2,6 @@ pub mod Device
 pub mod Inside
 pub mod Kept
 pub mod Scan
+pub mod Stages
 pub mod Staging
 pub mod Tables

@@ -7,6 +7,7 @@ mod kept;
 mod progress;
 mod read;
 mod staged;
+mod stages;
 mod surveyed;
 #[cfg(test)]
 mod tests;
