@@ -11,3 +11,5 @@ pub mod SurveyLemmas
 pub mod PlacedLemmas
 pub mod StageLemmas
 pub mod NumberedLemmas
+pub mod CacheLemmas
+pub mod TablesLemmas

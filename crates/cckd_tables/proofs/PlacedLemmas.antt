@@ -1,6 +1,6 @@
 -- Lists in order of a key: where a key stands, what it finds, and what an element that is put in changes.
 use Rattle.std.proofs.Common.{◌≡◌, ◌≢◌, ◌⊎◌, inl, inr, ℕ, zero, suc, ◌<◌, ◌≤◌, nat_lt, ◌==◌, true, false, cond, List, [], ◌∷◌, length, map, get_or, Option, Some, None, refl, sym, ◌∙◌, ap, subst, arith, slice_set}
-use Rattle.std.specs.List.{insert, prefix_len}
+use Rattle.std.specs.List.{insert, prefix_len, AllByRecursion}
 use Rattle.std.specs.List.Sorted.{IsNonDecreasingBy}
 use Rattle.std.proofs.lemmas.Bool.Decides.{eqb_tells, leb_tells}
 use Rattle.cckd_tables.specs.Stages.{RiseFrom, with_placed}
@@ -81,6 +81,15 @@ module _ {X : Type 0} (key : X → ℕ) where
           | inl u ↦ rw u.0 (l, subst (λ k. RiseFrom (suc k) (map key ys)) u.1 h.1)
           | inr u ↦ rw u.0 (l, ((let low = t.1 in let ne = u.1 in omega arith), h.1))
         ])
+      ]
+
+  -- what holds of each and of the new one holds of all
+  pub all_placed : (P : X → Type 0) (x : X) (xs : List X) → P x → AllByRecursion P xs → AllByRecursion P (with_placed key x xs)
+  all_placed P x [] one all = (one, tt)
+  all_placed P x (y ∷ ys) one all =
+      elim (leb_tells (suc (key y)) (key x)) [
+        | inl t ↦ rw t.0 (all.0, all_placed P x ys one all.1)
+        | inr t ↦ rw t.0 (elim (eqb_tells (key y) (key x)) [ inl u ↦ rw u.0 (one, all.1) | inr u ↦ rw u.0 (one, (all.0, all.1)) ])
       ]
 
 module _ {X V : Type 0} (key : X → ℕ) (value : X → V) where

@@ -5,7 +5,7 @@ use Rattle.cckd_base.specs.declared.entry.L2Entry.{L2Entry}
 use Rattle.cckd_tables.specs.declared.staged.StagedEntry.{StagedEntry}
 use Rattle.cckd_tables.specs.declared.staged.StagedWord.{StagedWord}
 use Rattle.cckd_tables.specs.Staging.{Stages, entry_for, place_for, IsStaged, IsMoved}
-use Rattle.cckd_tables.specs.Stages.{AreInOrder, AreStaged, with_placed, with_entry, with_word, staged_count, free_count}
+use Rattle.cckd_tables.specs.Stages.{IsOrderedBy, AreStaged, with_placed, with_entry, with_word, staged_count, free_count}
 use Rattle.cckd_tables.proofs.PlacedLemmas.{value_for, found_at, none_at, value_here, value_other, length_new, length_again, placed_rises}
 
 abbrev pub track_of : StagedEntry → ℕ
@@ -23,19 +23,19 @@ pub place_is_value : (g : ℕ) (ws : List StagedWord) → value_for group_of (λ
 place_is_value g [] = refl
 place_is_value g (w ∷ ws) = ap (λ o. cond (w.group == g) (Some w.pos) o) (place_is_value g ws)
 
-pub entry_found : (t : ℕ) (es : List StagedEntry) (at : ℕ) (d : StagedEntry) → AreInOrder track_of es → at ≡ prefix_len (λ e. nat_lt e.track t) es → at < length es
+pub entry_found : (t : ℕ) (es : List StagedEntry) (at : ℕ) (d : StagedEntry) → IsOrderedBy track_of es → at ≡ prefix_len (λ e. nat_lt e.track t) es → at < length es
     → (get_or es at d).track ≡ t → Some (get_or es at d).entry ≡ entry_for t es
 entry_found t es at d order is l same = sym (sym (entry_is_value t es) ∙ found_at track_of (λ e. e.entry) t 0 es at d order is l same)
 
-pub entry_none : (t : ℕ) (es : List StagedEntry) (at : ℕ) (d : StagedEntry) → AreInOrder track_of es → at ≡ prefix_len (λ e. nat_lt e.track t) es
+pub entry_none : (t : ℕ) (es : List StagedEntry) (at : ℕ) (d : StagedEntry) → IsOrderedBy track_of es → at ≡ prefix_len (λ e. nat_lt e.track t) es
     → (at < length es → (get_or es at d).track ≢ t) → None ≡ entry_for t es
 entry_none t es at d order is other = sym (sym (entry_is_value t es) ∙ none_at track_of (λ e. e.entry) t 0 es at d order is other)
 
-pub place_found : (g : ℕ) (ws : List StagedWord) (at : ℕ) (d : StagedWord) → AreInOrder group_of ws → at ≡ prefix_len (λ w. nat_lt w.group g) ws → at < length ws
+pub place_found : (g : ℕ) (ws : List StagedWord) (at : ℕ) (d : StagedWord) → IsOrderedBy group_of ws → at ≡ prefix_len (λ w. nat_lt w.group g) ws → at < length ws
     → (get_or ws at d).group ≡ g → Some (get_or ws at d).pos ≡ place_for g ws
 place_found g ws at d order is l same = sym (sym (place_is_value g ws) ∙ found_at group_of (λ w. w.pos) g 0 ws at d order is l same)
 
-pub place_none : (g : ℕ) (ws : List StagedWord) (at : ℕ) (d : StagedWord) → AreInOrder group_of ws → at ≡ prefix_len (λ w. nat_lt w.group g) ws
+pub place_none : (g : ℕ) (ws : List StagedWord) (at : ℕ) (d : StagedWord) → IsOrderedBy group_of ws → at ≡ prefix_len (λ w. nat_lt w.group g) ws
     → (at < length ws → (get_or ws at d).group ≢ g) → None ≡ place_for g ws
 place_none g ws at d order is other = sym (sym (place_is_value g ws) ∙ none_at group_of (λ w. w.pos) g 0 ws at d order is other)
 

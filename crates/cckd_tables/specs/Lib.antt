@@ -1,6 +1,8 @@
+pub mod Cached
 pub mod Device
 pub mod Inside
 pub mod Kept
+pub mod Looking
 pub mod Scan
 pub mod Stages
 pub mod Staging

@@ -13,9 +13,9 @@ abbrev pub RiseFrom : ℕ → List ℕ → Type 0
 RiseFrom least [] = Unit {0}
 RiseFrom least (n ∷ ns) = (least ≤ n) × RiseFrom (suc n) ns
 
--- they stand in order of their keys, each key once
-abbrev pub AreInOrder : {X : Type 0} → (X → ℕ) → List X → Type 0
-AreInOrder key xs = RiseFrom 0 (map key xs)
+-- in order of a key, each key once
+abbrev pub IsOrderedBy : {X : Type 0} → (X → ℕ) → List X → Type 0
+IsOrderedBy key xs = RiseFrom 0 (map key xs)
 
 -- where the element with this key stands, or else where it would
 abbrev pub IsPlaceOf : {X : Type 0} → (X → ℕ) → ℕ → List X → Result ℕ ℕ → Type 0
@@ -50,8 +50,8 @@ free_count s = 256 - staged_count s
 
 -- entries in order of track, words in order of group, and no more than 256 in all
 pub record AreStaged (s : Stages) : Type 0 where
-  pub entries : AreInOrder (λ e. e.track) s.entries
-  pub words : AreInOrder (λ w. w.group) s.words
+  pub entries : IsOrderedBy (λ e. e.track) s.entries
+  pub words : IsOrderedBy (λ w. w.group) s.words
   pub few : staged_count s ≤ 256
 
 -- whether a position names a space

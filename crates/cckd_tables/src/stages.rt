@@ -2,7 +2,7 @@
 ghost use Rattle.std.specs.Prelude.{◌≡◌, ◌⊎◌, ◌+◌, ◌<◌, ◌≤◌, length, IsNone, IfOk, slice_get, count_by};
 ghost use Rattle.std.specs.Vec.{vec_len, vec_capacity};
 ghost use Rattle.cckd_tables.specs.Staging.{entry_for, place_for, IsStaged, IsMoved};
-ghost use Rattle.cckd_tables.specs.Stages.{AreInOrder, AreStaged, IsPlaceOf, with_placed, with_entry, with_word, none_staged, free_count, is_place, word_space, entry_space, table_spaces, track_spaces, staged_spaces};
+ghost use Rattle.cckd_tables.specs.Stages.{IsOrderedBy, AreStaged, IsPlaceOf, with_placed, with_entry, with_word, none_staged, free_count, is_place, word_space, entry_space, table_spaces, track_spaces, staged_spaces};
 
 use crate::staged::{StagedEntry, StagedWord};
 use cckd_base::{Extent, L2Entry, Memory, Owner, SEE_PARENT, TABLE_LEN};
@@ -34,7 +34,7 @@ impl Model for Stages {
 
 /// Where the entry of a track stands, or else where it would.
 fn entry_place(entries: &[StagedEntry], track: u32) -> Result<usize, usize>
-    requires { AreInOrder (λ x. x.track) entries.now }
+    requires { IsOrderedBy (λ x. x.track) entries.now }
     ensures { IsPlaceOf (λ x. x.track) track entries.now result }
 {
     let at = entries.partition_point(|x| x.track < track);
@@ -46,7 +46,7 @@ fn entry_place(entries: &[StagedEntry], track: u32) -> Result<usize, usize>
 
 /// The entry of a track.
 fn entry_of(entries: &[StagedEntry], track: u32) -> Option<L2Entry>
-    requires { AreInOrder (λ x. x.track) entries.now }
+    requires { IsOrderedBy (λ x. x.track) entries.now }
     ensures { result ≡ entry_for track entries.now }
 {
     match entry_place(entries, track) {
@@ -57,7 +57,7 @@ fn entry_of(entries: &[StagedEntry], track: u32) -> Option<L2Entry>
 
 /// Puts one in at its place. One of the same track goes.
 fn put_entry(entries: &mut Vec<StagedEntry>, staged: StagedEntry)
-    requires order { AreInOrder (λ x. x.track) entries.old.items }
+    requires order { IsOrderedBy (λ x. x.track) entries.old.items }
     requires room { IsNone (entry_for staged.track entries.old.items) → vec_len entries.old < vec_capacity entries.old }
     ensures items { entries.new.items ≡ with_placed (λ x. x.track) staged entries.old.items }
     ensures capacity { vec_capacity entries.old ≤ vec_capacity entries.new }
@@ -74,7 +74,7 @@ fn put_entry(entries: &mut Vec<StagedEntry>, staged: StagedEntry)
 
 /// Where the word of a group stands, or else where it would.
 fn word_place(words: &[StagedWord], group: u32) -> Result<usize, usize>
-    requires { AreInOrder (λ x. x.group) words.now }
+    requires { IsOrderedBy (λ x. x.group) words.now }
     ensures { IsPlaceOf (λ x. x.group) group words.now result }
 {
     let at = words.partition_point(|x| x.group < group);
@@ -86,7 +86,7 @@ fn word_place(words: &[StagedWord], group: u32) -> Result<usize, usize>
 
 /// The position of a group's new table.
 fn pos_of(words: &[StagedWord], group: u32) -> Option<u32>
-    requires { AreInOrder (λ x. x.group) words.now }
+    requires { IsOrderedBy (λ x. x.group) words.now }
     ensures { result ≡ place_for group words.now }
 {
     match word_place(words, group) {
@@ -97,7 +97,7 @@ fn pos_of(words: &[StagedWord], group: u32) -> Option<u32>
 
 /// Puts one in at its place. One of the same group goes.
 fn put_word(words: &mut Vec<StagedWord>, staged: StagedWord)
-    requires order { AreInOrder (λ x. x.group) words.old.items }
+    requires order { IsOrderedBy (λ x. x.group) words.old.items }
     requires room { IsNone (place_for staged.group words.old.items) → vec_len words.old < vec_capacity words.old }
     ensures items { words.new.items ≡ with_placed (λ x. x.group) staged words.old.items }
     ensures capacity { vec_capacity words.old ≤ vec_capacity words.new }
