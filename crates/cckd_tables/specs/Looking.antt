@@ -44,9 +44,13 @@ word_of v g = unwrap_or (place_for g v.stages.words) (slice_index v.words g)
 abbrev pub HasAlignedTable : TableView → ℕ → Type 0
 HasAlignedTable v g = IsMoved g v.stages ⊎ (IsPlace (slice_index v.words g) × (slice_index v.words g % 8 ≡ 0))
 
--- the words are those of the slot's file, as far as it is told, and all else but the cached tables, of which there are none, is as it was
+-- the level-one words of the slot's file are these, as far as it is told
+abbrev pub HasWordsOf : Layout → List ℕ → ℕ → Seen → Type 0
+HasWordsOf l words slot s = Tells s → IsSure s.world → HasWords l words (file_of s.world slot)
+
+-- the words are those of the slot's file, no table is cached, and all else is as it was
 pub record LoadsWords (slot : ℕ) (s : Seen) (old new : TableView) : Type 0 where
-  pub words : Tells s → IsSure s.world → HasWords new.layout new.words (file_of s.world slot)
+  pub words : HasWordsOf old.layout new.words slot s
   pub rest : new ≡ record { layout = old.layout; words = new.words; stages = old.stages; cached = [] }
 
 -- no table is looked at for a track: its entry is staged, or the word of its group names none
