@@ -1,5 +1,5 @@
 -- What is read of a file, against what the file has: words, tables and entries.
-use Rattle.std.proofs.Common.{◌≡◌, ◌≢◌, ◌⊎◌, inl, inr, ℕ, zero, suc, ◌+◌, ◌-◌, ◌*◌, ◌/◌, ◌%◌, ◌<◌, ◌≤◌, ◌==◌, true, false, cond, List, [], ◌∷◌, length, take, slice_index, Option, Some, None, IsNone, IsSome, refl, sym, ◌∙◌, ap, subst, arith}
+use Rattle.std.proofs.Common.{◌≡◌, ◌≢◌, ◌⊎◌, inl, inr, ℕ, zero, suc, ◌+◌, ◌-◌, ◌*◌, ◌/◌, ◌%◌, ◌<◌, ◌≤◌, ◌==◌, true, false, cond, List, [], ◌∷◌, length, take, slice_index, Option, Some, None, IsNone, IsSome, Result, Ok, Err, OnOk, OnErr, IfOk, refl, sym, ◌∙◌, ap, subst, arith}
 use Rattle.std.specs.List.{AllByRecursion}
 use Rattle.std.specs.Option.{unwrap_or}
 use Rattle.std.specs.Int.{w32}
@@ -10,6 +10,8 @@ use Rattle.cckd_base.specs.Numbers.{number_of, number_at, bytes_at}
 use Rattle.cckd_base.specs.Entry.{see_parent, word_at, entry_of, entry_at, entry_by_word, entry_in_table, group_entry}
 use Rattle.cckd_base.specs.Image.{IsPlace}
 use Rattle.cckd_base.specs.Geometry.{track_count, IsLayout}
+use Rattle.cckd_tables.specs.declared.device.Device.{Device}
+use Rattle.cckd_tables.specs.Staging.{entry_for, new_entry}
 use Rattle.cckd_tables.specs.Tables.{CachedTable, TableView, HasWords, HasTables, IsCachedOf, AreOf}
 use Rattle.cckd_tables.specs.Cached.{table_of, IsCached, tables_but, used_first, UsesTable, KeepsCached}
 use Rattle.cckd_tables.specs.Looking.{IsTables, with_cached}
@@ -194,3 +196,60 @@ used_keeps g old new few used =
 
 pub same_keeps : (g : ℕ) (cs : List CachedTable) → KeepsCached g cs cs
 same_keeps g cs = record { own = λ some. some; others = λ h ne some. some; one = λ h k hg kg ne a b. inl a; none = λ room h some. some }
+
+-- What a look-up in a group with a table leaves. Here r is its answer.
+module _ (v : TableView) (file : List ℕ) (t word : ℕ) (new : List CachedTable) (r : Result L2Entry Device) where
+  pub entry_looked : AreOf v file → t / 256 < v.layout.groups → word ≡ slice_index v.words (t / 256) → IsPlace word → entry_for t v.stages.entries ≡ None
+      → OnOk r (UsesTable (t / 256) v.cached new)
+      → (IsNone (table_of (t / 256) v.cached) → OnOk r (unwrap_or (table_of (t / 256) new) [] ≡ bytes_at file word 2048))
+      → IfOk r (λ e. e ≡ entry_of v.layout.order (bytes_at (unwrap_or (table_of (t / 256) new) []) (8 * (t % 256)) 8))
+      → IfOk r (λ e. e ≡ new_entry v.layout v.stages file t)
+  entry_looked of low is place none used read got = by r used read got where
+    by : (o : Result L2Entry Device) → OnOk o (UsesTable (t / 256) v.cached new)
+        → (IsNone (table_of (t / 256) v.cached) → OnOk o (unwrap_or (table_of (t / 256) new) [] ≡ bytes_at file word 2048))
+        → IfOk o (λ e. e ≡ entry_of v.layout.order (bytes_at (unwrap_or (table_of (t / 256) new) []) (8 * (t % 256)) 8))
+        → IfOk o (λ e. e ≡ new_entry v.layout v.stages file t)
+    by (Err fault) used read got = tt
+    by (Ok e) used read got =
+        let there : IsPlace (slice_index v.words (t / 256)) = subst IsPlace is place in
+        let bytes = used_is v file (t / 256) new used of low there (λ absent. read absent ∙ ap (λ w. bytes_at file w 2048) is) in
+        let table : unwrap_or (table_of (t / 256) new) [] ≡ bytes_at file (slice_index v.words (t / 256)) 2048
+        = ap (λ (o : Option (List ℕ)). unwrap_or o []) (used_there (t / 256) v.cached new used) ∙ bytes in
+        let named : IsPlace (word_at v.layout file (t / 256)) = subst IsPlace (sym (of.words (t / 256) low)) there in
+        got ∙ entry_read v.layout file (unwrap_or (table_of (t / 256) new) []) (slice_index v.words (t / 256)) t table
+        ∙ ap (λ w. entry_in_table v.layout file w t) (sym (of.words (t / 256) low))
+        ∙ sym (word_gives_table v.layout file (word_at v.layout file (t / 256)) t named)
+        ∙ ap (λ (o : Option L2Entry). unwrap_or o (entry_at v.layout file t)) (sym none)
+
+  pub of_looked : AreOf v file → t / 256 < v.layout.groups → word ≡ slice_index v.words (t / 256) → IsPlace word
+      → OnOk r (UsesTable (t / 256) v.cached new) → OnErr r (new ≡ v.cached)
+      → (IsNone (table_of (t / 256) v.cached) → OnOk r (unwrap_or (table_of (t / 256) new) [] ≡ bytes_at file word 2048))
+      → AreOf (with_cached v new) file
+  of_looked of low is place used same read = by r used same read where
+    by : (o : Result L2Entry Device) → OnOk o (UsesTable (t / 256) v.cached new) → OnErr o (new ≡ v.cached)
+        → (IsNone (table_of (t / 256) v.cached) → OnOk o (unwrap_or (table_of (t / 256) new) [] ≡ bytes_at file word 2048))
+        → AreOf (with_cached v new) file
+    by (Err fault) used same read = subst (λ (cs : List CachedTable). AreOf (with_cached v cs) file) (sym same) of
+    by (Ok e) used same read =
+        let there : IsPlace (slice_index v.words (t / 256)) = subst IsPlace is place in
+        let bytes = used_is v file (t / 256) new used of low there (λ absent. read absent ∙ ap (λ w. bytes_at file w 2048) is) in
+        used_of v file (t / 256) new used of low there bytes
+
+  pub keeps_looked : length v.cached ≤ 64 → OnOk r (UsesTable (t / 256) v.cached new) → OnErr r (new ≡ v.cached) → KeepsCached (t / 256) v.cached new
+  keeps_looked few used same = by r used same where
+    by : (o : Result L2Entry Device) → OnOk o (UsesTable (t / 256) v.cached new) → OnErr o (new ≡ v.cached) → KeepsCached (t / 256) v.cached new
+    by (Err fault) used same = subst (λ (cs : List CachedTable). KeepsCached (t / 256) v.cached cs) (sym same) (same_keeps (t / 256) v.cached)
+    by (Ok e) used same = used_keeps (t / 256) v.cached new few used
+
+-- what holds at Ok where something is told holds, where it is told, at Ok
+pub ok_where : {A E : Type 0} (r : Result A E) (T S P : Type 0) → OnOk r (T → S → P) → T → S → OnOk r P
+ok_where (Ok x) T S P h told sure = h told sure
+ok_where (Err e) T S P h told sure = tt
+
+pub if_ok_where : {A E : Type 0} (r : Result A E) (T S : Type 0) (P : A → Type 0) → (T → S → IfOk r P) → IfOk r (λ x. T → S → P x)
+if_ok_where (Ok x) T S P h = h
+if_ok_where (Err e) T S P h = tt
+
+pub on_err : {A E : Type 0} (r : Result A E) (P Q : Type 0) → (P → Q) → OnErr r P → OnErr r Q
+on_err (Ok x) P Q f h = tt
+on_err (Err e) P Q f h = f h
