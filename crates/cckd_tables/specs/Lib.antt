@@ -1,4 +1,7 @@
+pub mod Blend
 pub mod Cached
+pub mod Cells
+pub mod Commit
 pub mod Device
 pub mod Inside
 pub mod Kept
