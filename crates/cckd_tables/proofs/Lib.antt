@@ -8,6 +8,12 @@ pub mod ItemLemmas
 pub mod FormedLemmas
 pub mod FileLemmas
 pub mod SurveyLemmas
+pub mod PlacedLemmas
+pub mod StageLemmas
+pub mod NumberedLemmas
+pub mod CacheLemmas
+pub mod TablesLemmas
+pub mod LookLemmas
 pub mod StagedLemmas
 pub mod WrittenLemmas
 pub mod BlendLemmas

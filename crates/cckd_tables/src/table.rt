@@ -56,6 +56,18 @@ pub(crate) fn begin_table(l: &Layout, word: u32, table: &mut [u8])
     ensures { (file : List ℕ) (t : ℕ) → entry_among l.now.order table.new t ≡ entry_by_word l.now file word t }
 {
     let format = u16::from(l.null_fmt);
-    let (pos, len) = if word == 0 { (0, format) } else { (SEE_PARENT, u16::MAX) };
-    fill(l.order, L2Entry { pos, len, size: len }, table);
+    let (pos, len) = if word == 0 {
+        (0, format)
+    } else {
+        (SEE_PARENT, u16::MAX)
+    };
+    fill(
+        l.order,
+        L2Entry {
+            pos,
+            len,
+            size: len,
+        },
+        table,
+    );
 }
