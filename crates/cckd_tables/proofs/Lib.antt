@@ -24,3 +24,4 @@ pub mod EntryRunLemmas
 pub mod PutRunLemmas
 pub mod CommitLemmas
 pub mod TableLemmas
+pub mod MakingLemmas

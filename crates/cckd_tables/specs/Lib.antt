@@ -6,6 +6,7 @@ pub mod Device
 pub mod Inside
 pub mod Kept
 pub mod Looking
+pub mod Making
 pub mod Scan
 pub mod Stages
 pub mod Staging

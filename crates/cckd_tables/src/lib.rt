@@ -8,6 +8,7 @@ mod device;
 mod entries;
 mod item;
 mod kept;
+mod making;
 mod progress;
 mod read;
 mod staged;
