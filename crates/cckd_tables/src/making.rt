@@ -93,4 +93,28 @@ impl Making<'_> {
         push_table(tables, &table);
         Ok(())
     }
+
+    /// Makes the new tables of staged words, one behind the other.
+    pub(crate) fn make<T: Stage>(
+        &self,
+        stage: &mut T,
+        slot: Slot,
+        moved: &[StagedWord],
+        tables: &mut Vec<u8>,
+    ) -> Result<(), Device>
+        requires making { IsMaking self.now }
+        requires there { AllByRecursion (λ w. w.group < self.now.layout.now.groups) moved.now }
+        requires room { 2048 * length moved.now ≤ vec_capacity tables.old }
+        requires of { IsOfSlot (tables_of self.now) slot (seen T.Shows stage.old) }
+        ensures made { OnOk result (AreMade self.now.layout.now (record { entries = self.now.entries.now; words = moved.now }) (length moved.now) tables.new.items slot (seen T.Shows stage.old)) }
+        ensures len { OnOk result (vec_len tables.new ≡ 2048 * length moved.now) }
+        ensures capacity { vec_capacity tables.old ≤ vec_capacity tables.new }
+        ensures looks { OnlyLooks result (seen T.Shows stage.old) (seen T.Shows stage.new) }
+    {
+        tables.clear();
+        for word in moved {
+            self.add(stage, slot, word.group, tables)?;
+        }
+        Ok(())
+    }
 }
