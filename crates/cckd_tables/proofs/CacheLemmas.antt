@@ -249,3 +249,10 @@ table_peeked k g f bytes cache found is =
     let there : entry_in f k.entries ≡ Some p.0 = ap (λ n. entry_in n k.entries) (sym p.2) ∙ found_frame g k.entries p.0 cache.kept.one_frame_each p.1 in
     let same : bytes ≡ p.0.body = (let h = subst (λ (o : Option Entry). IfSome o (λ (e : Entry). bytes ≡ e.body)) there is in h) in
     table_of_entries g k.entries ∙ ap (λ (o : Option Entry). option_map (λ (e : Entry). e.body) o) p.1 ∙ ap Some (sym same)
+
+-- the bytes in a frame are those of the entry of its key
+pub body_peeked : (k : Kept) (g f : ℕ) (bytes : List ℕ) → IsCache k → IfSome (entry_in f k.entries) (λ e. bytes ≡ e.body)
+    → (e : Entry) → entry_of g k.entries ≡ Some e → e.frame ≡ f → bytes ≡ e.body
+body_peeked k g f bytes cache is e some own =
+    let there : entry_in f k.entries ≡ Some e = ap (λ n. entry_in n k.entries) (sym own) ∙ found_frame g k.entries e cache.kept.one_frame_each some in
+    let h = subst (λ (o : Option Entry). IfSome o (λ (x : Entry). bytes ≡ x.body)) there is in h

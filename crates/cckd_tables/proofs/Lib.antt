@@ -25,3 +25,4 @@ pub mod PutRunLemmas
 pub mod CommitLemmas
 pub mod TableLemmas
 pub mod MakingLemmas
+pub mod SettleLemmas

@@ -8,6 +8,7 @@ pub mod Kept
 pub mod Looking
 pub mod Making
 pub mod Scan
+pub mod Settling
 pub mod Stages
 pub mod Staging
 pub mod Tables

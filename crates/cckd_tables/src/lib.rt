@@ -11,6 +11,7 @@ mod kept;
 mod making;
 mod progress;
 mod read;
+mod settling;
 mod staged;
 mod stages;
 mod surveyed;
