@@ -27,3 +27,6 @@ pub mod CommitLemmas
 pub mod TableLemmas
 pub mod FreshLemmas
 pub mod MixtureLemmas
+pub mod MakingLemmas
+pub mod SettleLemmas
+pub mod PlacesLemmas

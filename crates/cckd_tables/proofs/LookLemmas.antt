@@ -253,3 +253,7 @@ if_ok_where (Err e) T S P h = tt
 pub on_err : {A E : Type 0} (r : Result A E) (P Q : Type 0) → (P → Q) → OnErr r P → OnErr r Q
 on_err (Ok x) P Q f h = tt
 on_err (Err e) P Q f h = f h
+
+pub on_ok_where : {A E : Type 0} (r : Result A E) (T S P Q : Type 0) → (T → S → P → Q) → OnOk r (T → S → P) → OnOk r (T → S → Q)
+on_ok_where (Ok x) T S P Q f h = λ told sure. f told sure (h told sure)
+on_ok_where (Err e) T S P Q f h = tt

@@ -147,3 +147,10 @@ true_not_false b e h = let k : false ≡ true = sym e ∙ h in cc
 -- the track at a place of a list
 pub track_of : (ss : List StagedEntry) (i : ℕ) (d : StagedEntry) → i < length ss → slice_index (map (λ s. s.track) ss) i ≡ (get_or ss i d).track
 track_of ss i d low = get_or-map (λ (s : StagedEntry). s.track) ss i d 0 low
+
+-- a group is moved, or isn't
+pub moved_or_not : (g : ℕ) (s : Stages) → IsMoved g s ⊎ (IsMoved g s → ⊥)
+moved_or_not g s = elim (some_or_none (place_for g s.words)) [
+  | inl h ↦ inl (ap is_some h.1)
+  | inr none ↦ inr (not_some (place_for g s.words) none)
+]
