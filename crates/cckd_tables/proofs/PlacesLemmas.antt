@@ -1,19 +1,17 @@
 -- The tables that a commit leaves, at all 256 places of a group.
-use Rattle.std.proofs.Common.{◌≡◌, ◌≢◌, ◌⊎◌, ℕ, ◌+◌, ◌*◌, ◌/◌, ◌%◌, ◌<◌, ◌≤◌, ◌==◌, Bool, List, [], ◌∷◌, length, drop, Option, Some, None, unwrap_or, refl, sym, ◌∙◌, ap, subst, inl, inr, arith}
-use Rattle.std.specs.Int.{w16, w32}
+use Rattle.std.proofs.Common.{◌≡◌, ◌≢◌, ℕ, ◌*◌, ◌/◌, ◌%◌, ◌<◌, ◌≤◌, ◌==◌, List, [], ◌∷◌, length, drop, Some, None, refl, sym, ◌∙◌, ap, subst, inl, inr, arith}
 use Rattle.std.specs.List.{AllByRecursion}
 use Rattle.std.proofs.lemmas.Bool.{cases_eq, cases_lt, cond-false, ne_eqb}
-use Rattle.std.proofs.lemmas.List.{length-append, length-take, length-drop}
-use Rattle.cckd_shelf.specs.Files.{overlaid}
+use Rattle.std.proofs.lemmas.List.{length-take, length-drop}
 use Rattle.cckd_shelf.proofs.OutcomeLemmas.{length_overlaid}
 use Rattle.cckd_base.specs.declared.order.Order.{Order}
 use Rattle.cckd_base.specs.declared.order.Order.TheVariants.{Little, Big}
 use Rattle.cckd_base.specs.declared.geometry.Layout.{Layout}
 use Rattle.cckd_base.specs.declared.entry.L2Entry.{L2Entry}
 use Rattle.cckd_base.specs.Geometry.{track_count, area_of, IsLayout}
-use Rattle.cckd_base.specs.Numbers.{bytes_of, bytes_at}
+use Rattle.cckd_base.specs.Numbers.{bytes_at}
 use Rattle.cckd_base.specs.Entry.{word_at, entry_at, entry_of, entry_bytes, entry_in_table}
-use Rattle.cckd_base.specs.Image.{IsPlace, ShareNoByte}
+use Rattle.cckd_base.specs.Image.{IsPlace}
 use Rattle.cckd_base.proofs.PlaceLemmas.{table_inside, by_table}
 use Rattle.cckd_tables.specs.declared.staged.StagedEntry.{StagedEntry}
 use Rattle.cckd_tables.specs.Staging.{Stages, entry_for, IsMoved, new_entry, new_word}

@@ -14,7 +14,7 @@ use Rattle.cckd_shelf.specs.declared.fault.Kind.TheVariants.{Writes, Syncs}
 use Rattle.cckd_shelf.specs.Faults.{Raises}
 use Rattle.cckd_shelf.specs.Events.{Event}
 use Rattle.cckd_shelf.specs.World.{IsSure, file_of}
-use Rattle.cckd_shelf.specs.Outcomes.{IsOutcome, EachOutcome, AtEach}
+use Rattle.cckd_shelf.specs.Outcomes.{IsOutcome, EachOutcome}
 use Rattle.cckd_shelf.specs.Seen.{Seen, Tells}
 use Rattle.cckd_tables.specs.declared.commit.Commit.{Commit}
 use Rattle.cckd_tables.specs.declared.device.Device.{Device}
