@@ -19,6 +19,7 @@ pub mod WrittenLemmas
 pub mod BlendLemmas
 pub mod TableLoopLemmas
 pub mod WordLoopLemmas
+pub mod PutOverLemmas
 pub mod EntryLoopLemmas
 pub mod EntryRunLemmas
 pub mod PutRunLemmas
@@ -26,3 +27,5 @@ pub mod CommitLemmas
 pub mod TableLemmas
 pub mod MakingLemmas
 pub mod SettleLemmas
+pub mod FreshLemmas
+pub mod MixtureLemmas
