@@ -120,7 +120,7 @@ pub entries_more : (l : Layout) (was : List ℕ) (stages : Stages) (i : ℕ) (d 
     → AllByRecursion (λ s. s.track < track_count l.geo) stages.entries → i < length stages.entries → (IsMoved ((get_or stages.entries i d).track / 256) stages → ⊥)
     → IsEncoded l.order (get_or stages.entries i d).entry → AreEntriesWritten l was stages i file
     → AreEntriesWritten l was stages (i + 1)
-        (overlaid file (word_at l was ((get_or stages.entries i d).track / 256) + 8 * ((get_or stages.entries i d).track % 256)) (entry_bytes l.order (get_or stages.entries i d).entry))
+    (overlaid file (word_at l was ((get_or stages.entries i d).track / 256) + 8 * ((get_or stages.entries i d).track % 256)) (entry_bytes l.order (get_or stages.entries i d).entry))
 entries_more l was stages i d file ready order there low not encoded h =
     let s = get_or stages.entries i d in
     let bytes = entry_bytes l.order s.entry in

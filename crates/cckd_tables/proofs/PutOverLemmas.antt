@@ -54,13 +54,13 @@ part_overlaid file p n k bytes within inside =
           overlaid_before file (p + k) bytes (p + i) (omega (arith, below, within)) (omega (arith, before))
           ∙ (sym (byte_of_part file p n i below) ∙ sym (overlaid_before old k bytes i (omega (arith, below, old_size)) before))
       | inr from ↦ elim (cases_lt i (k + length bytes)) [
-          | inl lt ↦
-              let there : p + i ≡ p + k + (i - k) = omega arith in
-              let here : i ≡ k + (i - k) = omega arith in
-              ap (λ (m : ℕ). get_or new m 0) there ∙ (overlaid_in file (p + k) bytes (i - k) (omega (arith, from, lt))
-              ∙ (sym (overlaid_in old k bytes (i - k) (omega (arith, from, lt))) ∙ sym (ap (λ (m : ℕ). get_or (overlaid old k bytes) m 0) here)))
-          | inr behind ↦
-              overlaid_behind file (p + k) bytes (p + i) (omega (arith, behind))
-              ∙ (sym (byte_of_part file p n i below) ∙ sym (overlaid_behind old k bytes i behind))
-        ]
+        | inl lt ↦
+            let there : p + i ≡ p + k + (i - k) = omega arith in
+            let here : i ≡ k + (i - k) = omega arith in
+            ap (λ (m : ℕ). get_or new m 0) there ∙ (overlaid_in file (p + k) bytes (i - k) (omega (arith, from, lt))
+            ∙ (sym (overlaid_in old k bytes (i - k) (omega (arith, from, lt))) ∙ sym (ap (λ (m : ℕ). get_or (overlaid old k bytes) m 0) here)))
+        | inr behind ↦
+            overlaid_behind file (p + k) bytes (p + i) (omega (arith, behind))
+            ∙ (sym (byte_of_part file p n i below) ∙ sym (overlaid_behind old k bytes i behind))
+      ]
     ])

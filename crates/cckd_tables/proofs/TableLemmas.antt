@@ -71,8 +71,7 @@ put_first order group entries table = record { bytes = refl; entries_are = λ t 
 pub put_all : (order : Order) (group : ℕ) (entries : List StagedEntry) (n : ℕ) (old new : List ℕ) → length entries ≤ n → ArePut order group entries n old new
     → (new ≡ put_over order group entries old) × ArePutOver order group entries old new
 put_all order group entries n old new end h =
-    let all = take_all n entries end in
-    (
+    let all = take_all n entries end in (
       h.bytes ∙ ap (λ (ss : List StagedEntry). put_over order group ss old) all,
       subst (λ (ss : List StagedEntry). ArePutOver order group ss old new) all h.entries_are,
     )
