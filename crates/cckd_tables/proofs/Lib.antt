@@ -30,3 +30,4 @@ pub mod MixtureLemmas
 pub mod MakingLemmas
 pub mod SettleLemmas
 pub mod PlacesLemmas
+pub mod CommittedLemmas

@@ -76,7 +76,7 @@ all_without g (e ∷ es) none = elim (eqb_tells e.key g) [
 -- nothing is put over yet
 pub all_put_first : (order : Order) (cs : List CachedTable) → AreAllPutOver order [] cs cs
 all_put_first order [] = tt
-all_put_first order (c ∷ cs) = (refl, (λ t own. refl), all_put_first order cs)
+all_put_first order (c ∷ cs) = (refl, refl, (λ t own. refl), all_put_first order cs)
 
 module _ (order : Order) (entries : List StagedEntry) (i : ℕ) (d : StagedEntry) (rising : IsStrictlyIncreasing (staged_tracks entries)) (low : i < length entries) where
   -- one more, into the table of its group
@@ -87,22 +87,22 @@ module _ (order : Order) (entries : List StagedEntry) (i : ℕ) (d : StagedEntry
   all_put_more f g body new [] (e ∷ es) one whole own puts long so = absurd so
   all_put_more f g body new (c ∷ cs) [] one whole own puts long so = absurd so
   all_put_more f g body new (c ∷ cs) (e ∷ es) one whole own puts long so =
-      let rest = all_put_more f g body new cs es one.1 whole.1 own puts long so.2 in
+      let rest = all_put_more f g body new cs es one.1 whole.1 own puts long so.3 in
       elim one.0 [
         | inl is ↦ (
             let bytes : refilled e.body new ≡ new = refilled_whole e.body new (long ∙ sym whole.0) in
             let mine : (get_or entries i d).track / 256 ≡ c.group = own ∙ sym is.1 ∙ so.0 in
-            let put = put_over_more order c.group entries i d c.bytes e.body rising low so.1 puts.end new whole.0 mine puts.encoded
+            let put = put_over_more order c.group entries i d c.bytes e.body rising low (record { bytes = so.1; entries_are = so.2 }) puts.end new whole.0 mine puts.encoded
             (subst (λ (b : List ℕ). IsPut (8 * ((get_or entries i d).track % 256)) puts.end (entry_bytes order (get_or entries i d).entry) b new) (sym is.2) puts.put) in
             elim (eqb_tells e.frame f) [
-              | inl u ↦ rw u.0 (so.0, subst (λ (b : List ℕ). ArePutOver order c.group (take (i + 1) entries) c.bytes b) (sym bytes) put, rest)
+              | inl u ↦ rw u.0 (so.0, bytes ∙ put.bytes, subst (λ (b : List ℕ). ArePutOver order c.group (take (i + 1) entries) c.bytes b) (sym bytes) put.entries_are, rest)
               | inr u ↦ absurd (u.1 is.0)
             ])
         | inr is ↦ (
-            let skip = put_over_skip order c.group entries i d c.bytes e.body rising low so.1 (λ same. is.1 (so.0 ∙ sym same ∙ own)) in
+            let skip = put_over_skip order c.group entries i d c.bytes e.body rising low (record { bytes = so.1; entries_are = so.2 }) (λ same. is.1 (so.0 ∙ sym same ∙ own)) in
             elim (eqb_tells e.frame f) [
               | inl u ↦ absurd (is.0 u.1)
-              | inr u ↦ rw u.0 (so.0, skip, rest)
+              | inr u ↦ rw u.0 (so.0, skip.bytes, skip.entries_are, rest)
             ])
       ]
 
@@ -113,7 +113,8 @@ module _ (order : Order) (entries : List StagedEntry) (i : ℕ) (d : StagedEntry
   all_put_on g [] (e ∷ es) none own so = absurd so
   all_put_on g (c ∷ cs) [] none own so = absurd so
   all_put_on g (c ∷ cs) (e ∷ es) none own so =
-      (so.0, put_over_skip order c.group entries i d c.bytes e.body rising low so.1 (λ same. none.0 (so.0 ∙ sym same ∙ own)), all_put_on g cs es none.1 own so.2)
+      let skip = put_over_skip order c.group entries i d c.bytes e.body rising low (record { bytes = so.1; entries_are = so.2 }) (λ same. none.0 (so.0 ∙ sym same ∙ own)) in
+      (so.0, skip.bytes, skip.entries_are, all_put_on g cs es none.1 own so.3)
 
 whole_written : (f : ℕ) (new : List ℕ) (es : List Entry) → length new ≡ 2048 → AllByRecursion (λ e. length e.body ≡ 2048) es → AllByRecursion (λ e. length e.body ≡ 2048) (with_writes f new es)
 whole_written f new [] long whole = tt

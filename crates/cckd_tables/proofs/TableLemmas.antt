@@ -1,5 +1,5 @@
 -- Entries that are put into a table.
-use Rattle.std.proofs.Common.{◌≡◌, ◌≢◌, ℕ, ◌+◌, ◌*◌, ◌/◌, ◌%◌, ◌<◌, ◌≤◌, ◌==◌, List, [], ◌∷◌, ◌++◌, length, take, drop, get_or, Option, Some, None, unwrap_or, refl, sym, ◌∙◌, ap, subst, inl, inr, arith}
+use Rattle.std.proofs.Common.{◌≡◌, ◌≢◌, ◌⊎◌, ℕ, ◌+◌, ◌*◌, ◌/◌, ◌%◌, ◌<◌, ◌≤◌, ◌==◌, cond, List, [], ◌∷◌, ◌++◌, length, take, drop, get_or, Option, Some, None, unwrap_or, refl, sym, ◌∙◌, ap, subst, inl, inr, arith}
 use Rattle.std.specs.List.Sorted.{IsStrictlyIncreasing}
 use Rattle.std.proofs.lemmas.Bool.{cases_eq, cases_lt, cond-true, cond-false, eq-eqb, ne_eqb}
 use Rattle.std.proofs.lemmas.List.{append_assoc, take_all}
@@ -10,6 +10,7 @@ use Rattle.cckd_base.specs.declared.entry.L2Entry.{L2Entry}
 use Rattle.cckd_base.specs.Numbers.{bytes_at}
 use Rattle.cckd_base.specs.Put.{IsPut}
 use Rattle.cckd_base.specs.Entry.{entry_at, entry_of, entry_bytes, entry_in_table}
+use Rattle.cckd_base.specs.Image.{ShareNoByte}
 use Rattle.cckd_base.proofs.PutLemmas.{put_is}
 use Rattle.cckd_tables.specs.declared.staged.StagedEntry.{StagedEntry}
 use Rattle.cckd_tables.specs.Staging.{Stages, entry_for, new_entry}
@@ -18,7 +19,7 @@ use Rattle.cckd_tables.specs.Commit.{staged_tracks}
 use Rattle.cckd_tables.specs.Cells.{IsEncoded, entry_among, ArePutOver}
 use Rattle.cckd_tables.proofs.FileLemmas.{part_of_part}
 use Rattle.cckd_tables.proofs.StagedLemmas.{one_value, entry_own}
-use Rattle.cckd_tables.proofs.WrittenLemmas.{part_stays, part_written}
+use Rattle.cckd_tables.proofs.WrittenLemmas.{part_stays, part_written, two_cells}
 use Rattle.cckd_tables.proofs.WordLoopLemmas.{one_more}
 use Rattle.cckd_tables.proofs.EntryLoopLemmas.{entry_in_front, entry_before}
 use Rattle.cckd_tables.proofs.PutOverLemmas.{with_put_own, with_put_other, put_over_next}
@@ -59,50 +60,13 @@ entry_last (x ∷ front) s = elim (cases_eq x.track s.track) [
       (r.0, cond-false (x.track == s.track) (Some x.entry) (entry_for s.track (front ++ s ∷ [])) (ne_eqb x.track s.track other) ∙ r.1)
 ]
 
--- nothing is put over yet
-pub put_over_first : (order : Order) (group : ℕ) (table : List ℕ) → ArePutOver order group [] table table
-put_over_first order group table = λ t mine. refl
-
-module _ (order : Order) (group : ℕ) (entries : List StagedEntry) (i : ℕ) (d : StagedEntry) (old mid : List ℕ) (rising : IsStrictlyIncreasing (staged_tracks entries)) (low : i < length entries)
-    (so : ArePutOver order group (take i entries) old mid) where
-  last_is : entry_for (get_or entries i d).track (take (i + 1) entries) ≡ Some (get_or entries i d).entry
-  last_is =
-      let s = get_or entries i d in
-      let r = entry_last (take i entries) s in
-      let found : entry_for s.track (take (i + 1) entries) ≡ Some r.0 = ap (entry_for s.track) (one_more entries i d low) ∙ r.1 in
-      let same : r.0 ≡ s.entry = one_value (entry_for s.track entries) r.0 s.entry (entry_in_front entries (i + 1) s.track r.0 found) (entry_own entries i d rising low) in
-      found ∙ ap (λ (e : L2Entry). Some e) same
-
-  before_is : (t : ℕ) → (get_or entries i d).track ≢ t → entry_for t (take (i + 1) entries) ≡ entry_for t (take i entries)
-  before_is t other = ap (entry_for t) (one_more entries i d low) ∙ entry_before (take i entries) (get_or entries i d) t other
-
-  -- one of another group
-  pub put_over_skip : (get_or entries i d).track / 256 ≢ group → ArePutOver order group (take (i + 1) entries) old mid
-  put_over_skip other = λ t mine.
-      so t mine ∙ ap (λ (o : Option L2Entry). unwrap_or o (entry_among order old t)) (sym (before_is t (λ same. other (ap (λ (n : ℕ). n / 256) same ∙ mine))))
-
-  -- and one of this group
-  pub put_over_more : (end : ℕ) (new : List ℕ) → length mid ≡ 2048 → (get_or entries i d).track / 256 ≡ group → IsEncoded order (get_or entries i d).entry
-      → IsPut (8 * ((get_or entries i d).track % 256)) end (entry_bytes order (get_or entries i d).entry) mid new → ArePutOver order group (take (i + 1) entries) old new
-  put_over_more end new size own encoded put = λ t mine.
-      let s = get_or entries i d in
-      let p = entry_put order (s.track % 256) end s.entry mid new size (omega arith) encoded put in
-      elim (cases_eq s.track t) [
-        | inl same ↦
-            subst (λ (x : ℕ). entry_among order new x ≡ unwrap_or (entry_for x (take (i + 1) entries)) (entry_among order old x)) same
-            (p.here ∙ ap (λ (o : Option L2Entry). unwrap_or o (entry_among order old s.track)) (sym last_is))
-        | inr other ↦
-            ap (entry_of order) (p.others (t % 256) (omega arith) (λ same. other (omega (arith, same, own, mine))))
-            ∙ (so t mine ∙ ap (λ (o : Option L2Entry). unwrap_or o (entry_among order old t)) (sym (before_is t other)))
-      ]
-
--- the first n entries are put over, those of the group, and what the table is then
+-- the first n entries are put over, those of the group
 pub record ArePut (order : Order) (group : ℕ) (entries : List StagedEntry) (n : ℕ) (old new : List ℕ) : Type 0 where
   pub bytes : new ≡ put_over order group (take n entries) old
   pub entries_are : ArePutOver order group (take n entries) old new
 
 pub put_first : (order : Order) (group : ℕ) (entries : List StagedEntry) (table : List ℕ) → ArePut order group entries 0 table table
-put_first order group entries table = record { bytes = refl; entries_are = put_over_first order group table }
+put_first order group entries table = record { bytes = refl; entries_are = λ t mine. refl }
 
 pub put_all : (order : Order) (group : ℕ) (entries : List StagedEntry) (n : ℕ) (old new : List ℕ) → length entries ≤ n → ArePut order group entries n old new
     → (new ≡ put_over order group entries old) × ArePutOver order group entries old new
@@ -114,22 +78,44 @@ put_all order group entries n old new end h =
 
 module _ (order : Order) (group : ℕ) (entries : List StagedEntry) (i : ℕ) (d : StagedEntry) (old mid : List ℕ) (rising : IsStrictlyIncreasing (staged_tracks entries)) (low : i < length entries)
     (so : ArePut order group entries i old mid) where
+  last_is : entry_for (get_or entries i d).track (take (i + 1) entries) ≡ Some (get_or entries i d).entry
+  last_is =
+      let s = get_or entries i d in
+      let r = entry_last (take i entries) s in
+      let found : entry_for s.track (take (i + 1) entries) ≡ Some r.0 = ap (entry_for s.track) (one_more entries i d low) ∙ r.1 in
+      let same : r.0 ≡ s.entry = one_value (entry_for s.track entries) r.0 s.entry (entry_in_front entries (i + 1) s.track r.0 found) (entry_own entries i d rising low) in
+      found ∙ ap (λ (e : L2Entry). Some e) same
+
+  before_is : (t : ℕ) → (get_or entries i d).track ≢ t → entry_for t (take (i + 1) entries) ≡ entry_for t (take i entries)
+  before_is t other = ap (entry_for t) (one_more entries i d low) ∙ entry_before (take i entries) (get_or entries i d) t other
+
   next_bytes : (new : List ℕ) → new ≡ with_put order group (get_or entries i d) mid → new ≡ put_over order group (take (i + 1) entries) old
   next_bytes new is = is ∙ (ap (with_put order group (get_or entries i d)) so.bytes ∙ sym (put_over_next order group entries i d old low))
 
-  pub put_skip : (get_or entries i d).track / 256 ≢ group → ArePut order group entries (i + 1) old mid
-  put_skip other = record {
+  -- one of another group
+  pub put_over_skip : (get_or entries i d).track / 256 ≢ group → ArePut order group entries (i + 1) old mid
+  put_over_skip other = record {
     bytes = next_bytes mid (sym (with_put_other order group (get_or entries i d) mid other));
-    entries_are = put_over_skip order group entries i d old mid rising low so.entries_are other;
+    entries_are = λ t mine.
+        so.entries_are t mine ∙ ap (λ (o : Option L2Entry). unwrap_or o (entry_among order old t)) (sym (before_is t (λ same. other (ap (λ (n : ℕ). n / 256) same ∙ mine))));
   }
 
-  pub put_more : (end : ℕ) (new : List ℕ) → length mid ≡ 2048 → (get_or entries i d).track / 256 ≡ group → IsEncoded order (get_or entries i d).entry
+  -- and one of this group
+  pub put_over_more : (end : ℕ) (new : List ℕ) → length mid ≡ 2048 → (get_or entries i d).track / 256 ≡ group → IsEncoded order (get_or entries i d).entry
       → IsPut (8 * ((get_or entries i d).track % 256)) end (entry_bytes order (get_or entries i d).entry) mid new → ArePut order group entries (i + 1) old new
-  put_more end new size own encoded put =
+  put_over_more end new size own encoded put =
       let s = get_or entries i d in
+      let p = entry_put order (s.track % 256) end s.entry mid new size (omega arith) encoded put in
       record {
         bytes = next_bytes new (put_overlaid (8 * (s.track % 256)) end (entry_bytes order s.entry) mid new (omega (arith, size)) put ∙ sym (with_put_own order group s mid own));
-        entries_are = put_over_more order group entries i d old mid rising low so.entries_are end new size own encoded put;
+        entries_are = λ t mine. elim (cases_eq s.track t) [
+          | inl same ↦
+              subst (λ (x : ℕ). entry_among order new x ≡ unwrap_or (entry_for x (take (i + 1) entries)) (entry_among order old x)) same
+              (p.here ∙ ap (λ (o : Option L2Entry). unwrap_or o (entry_among order old s.track)) (sym last_is))
+          | inr other ↦
+              ap (entry_of order) (p.others (t % 256) (omega arith) (λ same. other (omega (arith, same, own, mine))))
+              ∙ (so.entries_are t mine ∙ ap (λ (o : Option L2Entry). unwrap_or o (entry_among order old t)) (sym (before_is t other)))
+        ];
       }
 
 -- one place more is filled

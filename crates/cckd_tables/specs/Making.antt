@@ -11,7 +11,7 @@ use Rattle.cckd_tables.specs.declared.staged.StagedEntry.{StagedEntry}
 use Rattle.cckd_tables.specs.Staging.{Stages, entry_for, new_entry}
 use Rattle.cckd_tables.specs.Tables.{TableView}
 use Rattle.cckd_tables.specs.Cached.{IsCache, tables_in}
-use Rattle.cckd_tables.specs.Commit.{staged_tracks, staged_groups}
+use Rattle.cckd_tables.specs.Commit.{staged_tracks, staged_groups, CanCommit}
 use Rattle.cckd_tables.specs.Cells.{entry_among}
 
 -- the tables that new ones are made of
@@ -58,3 +58,9 @@ AreMade l stages n tables slot s =
 pub record Looked (old new : Seen) : Type 0 where
   pub kept : Stays old new
   pub faults : new.faults ≡ old.faults
+
+-- what is shown is told and sure, and the file of the slot takes what is staged
+pub record Commits (l : Layout) (stages : Stages) (slot : ℕ) (s : Seen) : Type 0 where
+  pub tells : Tells s
+  pub sure : IsSure s.world
+  pub can : CanCommit l stages (file_of s.world slot)

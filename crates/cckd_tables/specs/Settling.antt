@@ -7,6 +7,7 @@ use Rattle.cckd_tables.specs.declared.staged.StagedEntry.{StagedEntry}
 use Rattle.cckd_tables.specs.declared.staged.StagedWord.{StagedWord}
 use Rattle.cckd_tables.specs.Stages.{none_staged}
 use Rattle.cckd_tables.specs.Tables.{CachedTable, TableView}
+use Rattle.cckd_tables.specs.Blend.{put_over}
 use Rattle.cckd_tables.specs.Cells.{IsEncoded, ArePutOver}
 
 -- level-one words with staged ones in their places
@@ -25,7 +26,8 @@ abbrev pub AreAllPutOver : Order → List StagedEntry → List CachedTable → L
 AreAllPutOver order entries [] [] = Unit {0}
 AreAllPutOver order entries [] (d ∷ ds) = ⊥
 AreAllPutOver order entries (c ∷ cs) [] = ⊥
-AreAllPutOver order entries (c ∷ cs) (d ∷ ds) = (d.group ≡ c.group) × ArePutOver order c.group entries c.bytes d.bytes × AreAllPutOver order entries cs ds
+AreAllPutOver order entries (c ∷ cs) (d ∷ ds) =
+    (d.group ≡ c.group) × (d.bytes ≡ put_over order c.group entries c.bytes) × ArePutOver order c.group entries c.bytes d.bytes × AreAllPutOver order entries cs ds
 
 -- what is staged stands in the words and in the cached tables, and nothing is staged any more
 pub record Settles (old new : TableView) : Type 0 where

@@ -1,12 +1,17 @@
 //! The new tables of a commit: the old entries of their groups, with the staged ones put over.
-ghost use Rattle.std.specs.Prelude.{◌≡◌, ◌+◌, ◌*◌, ◌<◌, ◌≤◌, ◌++◌, length, OnOk};
+ghost use Rattle.std.specs.Prelude.{◌≡◌, ◌+◌, ◌*◌, ◌<◌, ◌≤◌, ◌++◌, length, Err, OnOk};
 ghost use Rattle.std.specs.Vec.{vec_len, vec_capacity};
 ghost use Rattle.std.specs.List.{AllByRecursion};
-ghost use Rattle.cckd_shelf.specs.Seen.{seen};
-ghost use Rattle.cckd_tables.specs.Device.{OnlyLooks};
+ghost use Rattle.cckd_shelf.specs.World.{IsSure, file_of};
+ghost use Rattle.cckd_shelf.specs.Seen.{seen, Tells, Stays};
+ghost use Rattle.cckd_shelf.specs.Stops.{StopLeaves, StopsLeave};
+ghost use Rattle.cckd_shelf.specs.Frame.{OnlyIn};
+ghost use Rattle.cckd_tables.specs.Device.{CountsDevice, OnlyLooks};
+ghost use Rattle.cckd_tables.specs.Commit.{AreInOrder, MayLeave, IsBlended, IsCommittedFrom};
 ghost use Rattle.cckd_tables.specs.Looking.{IsOfSlot};
 
 use crate::cache::read_table;
+use crate::commit::Commit;
 use crate::device::Device;
 use crate::staged::{StagedEntry, StagedWord};
 use crate::table::{begin_table, put_entries};
@@ -38,7 +43,7 @@ fn push_table(tables: &mut Vec<u8>, table: &[u8])
 }
 
 impl Making<'_> {
-    ghost use Rattle.cckd_tables.specs.Making.{tables_of, IsMaking, HasOldEntries, AddsTable, AreMade};
+    ghost use Rattle.cckd_tables.specs.Making.{tables_of, IsMaking, HasOldEntries, AddsTable, AreMade, Commits};
 
     /// The table of a group, read where it isn't cached. A group without a table gives each track the same entry.
     fn old_table<T: Stage>(
@@ -116,5 +121,44 @@ impl Making<'_> {
             self.add(stage, slot, word.group, tables)?;
         }
         Ok(())
+    }
+
+    /// Makes the new tables of staged words, and writes them with the words and the entries. All reads come before the
+    /// first write.
+    pub(crate) fn commit<T: Stage>(
+        &self,
+        stage: &mut T,
+        slot: Slot,
+        moved: &[StagedWord],
+        tables: &mut Vec<u8>,
+    ) -> Result<(), Device>
+        requires making { IsMaking self.now }
+        requires order { AreInOrder self.now.layout.now (record { entries = self.now.entries.now; words = moved.now }) }
+        requires room { 2048 * length moved.now ≤ vec_capacity tables.old }
+        requires of { IsOfSlot (tables_of self.now) slot (seen T.Shows stage.old) }
+        ensures stopped { Commits self.now.layout.now (record { entries = self.now.entries.now; words = moved.now }) slot (seen T.Shows stage.old)
+            → StopsLeave slot (MayLeave self.now.layout.now (record { entries = self.now.entries.now; words = moved.now }) slot
+            (seen T.Shows stage.old).world.events (file_of (seen T.Shows stage.old).world slot)) (seen T.Shows stage.old) (seen T.Shows stage.new) }
+        ensures done { Commits self.now.layout.now (record { entries = self.now.entries.now; words = moved.now }) slot (seen T.Shows stage.old)
+            → OnOk result (StopLeaves slot (IsBlended self.now.layout.now (record { entries = self.now.entries.now; words = moved.now })
+            (file_of (seen T.Shows stage.old).world slot)) (seen T.Shows stage.new)) }
+        ensures now { Commits self.now.layout.now (record { entries = self.now.entries.now; words = moved.now }) slot (seen T.Shows stage.old)
+            → OnOk result (IsCommittedFrom self.now.layout.now (record { entries = self.now.entries.now; words = moved.now })
+            (file_of (seen T.Shows stage.old).world slot) (file_of (seen T.Shows stage.new).world slot)) }
+        ensures sure { Tells (seen T.Shows stage.old) → IsSure (seen T.Shows stage.old).world → OnOk result (IsSure (seen T.Shows stage.new).world) }
+        ensures others { OnlyIn slot (seen T.Shows stage.old) (seen T.Shows stage.new) }
+        ensures counts { CountsDevice result (seen T.Shows stage.old).faults (seen T.Shows stage.new).faults }
+        ensures read { result ≡ Err Device.Read → Stays (seen T.Shows stage.old) (seen T.Shows stage.new) }
+        ensures capacity { vec_capacity tables.old ≤ vec_capacity tables.new }
+    {
+        self.make(stage, slot, moved, tables)?;
+        let commit = Commit {
+            layout: self.layout,
+            words: self.words,
+            moved,
+            tables: tables.as_slice(),
+            entries: self.entries,
+        };
+        commit.write(stage, slot)
     }
 }
