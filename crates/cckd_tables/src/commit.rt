@@ -1,17 +1,14 @@
 //! A commit: staged words and entries are written into the file of a slot.
-ghost use Rattle.std.specs.Prelude.{◌≡◌, ◌*◌, ◌<◌, ◌≤◌, ℕ, List, length, is_some, IfOk, OnOk};
-ghost use Rattle.std.specs.List.{AllByRecursion};
-ghost use Rattle.std.specs.List.Sorted.{IsStrictlyIncreasing};
+ghost use Rattle.std.specs.Prelude.{◌≡◌, ◌<◌, ◌≤◌, ℕ, List, length, is_some, IfOk, OnOk};
 ghost use Rattle.cckd_shelf.specs.declared.fault.Kind.TheVariants.{Writes};
 ghost use Rattle.cckd_shelf.specs.World.{IsSure, file_of};
 ghost use Rattle.cckd_shelf.specs.Seen.{seen, Tells, Fails};
 ghost use Rattle.cckd_shelf.specs.Stops.{StopLeaves, StopsLeave};
 ghost use Rattle.cckd_shelf.specs.Frame.{OnlyIn};
-ghost use Rattle.cckd_tables.specs.declared.staged.StagedEntry.{StagedEntry as Entry};
 ghost use Rattle.cckd_tables.specs.Staging.{place_for};
 ghost use Rattle.cckd_tables.specs.Tables.{HasWords, HasTables};
 ghost use Rattle.cckd_tables.specs.Blend.{Near, Blend, IsCommitted};
-ghost use Rattle.cckd_tables.specs.Commit.{staged_groups, IsNearOutcome, stages_of, IsCommit, MayCommit, MayLeave, IsBlended, IsCommittedFrom, SpellsNewEntries, IsSyncedNow, CountsCommit};
+ghost use Rattle.cckd_tables.specs.Commit.{IsNearOutcome, stages_of, IsCommit, MayCommit, MayLeave, IsBlended, IsCommittedFrom, SpellsNewEntries, IsSyncedNow, CountsCommit};
 ghost use Rattle.cckd_tables.specs.Cells.{AreDisjoint, AreTablesWritten, IsReady, AreWordsWritten, AreEntriesWritten};
 
 use crate::cell::{cell, write_run, write_table, write_word};
@@ -77,7 +74,7 @@ impl Commit<'_> {
         ensures others { OnlyIn slot (seen S.Shows shelf.old) (seen S.Shows shelf.new) }
         ensures counts { CountsCommit result (seen S.Shows shelf.old).faults (seen S.Shows shelf.new).faults }
     {
-        let Ok(()) = write_tables(shelf, slot, self.moved, self.tables) else {
+        let Ok(()) = self.write_tables(shelf, slot) else {
             return Err(Device::Write);
         };
         let synced = shelf.sync(slot);
@@ -100,7 +97,7 @@ impl Commit<'_> {
         ensures others { OnlyIn slot (seen S.Shows shelf.old) (seen S.Shows shelf.new) }
         ensures fails { Fails Writes result (seen S.Shows shelf.old) (seen S.Shows shelf.new) }
     {
-        write_words(shelf, slot, self.layout, self.moved)?;
+        self.write_words(shelf, slot)?;
         self.write_entries(shelf, slot)
     }
 
@@ -133,7 +130,7 @@ impl Commit<'_> {
     }
 
     /// Writes the staged entries of groups without a new table.
-    pub(crate) fn write_entries<S: Shelf>(&self, shelf: &mut S, slot: Slot) -> Result<(), Failed>
+    fn write_entries<S: Shelf>(&self, shelf: &mut S, slot: Slot) -> Result<(), Failed>
         requires { IsCommit self.now }
         ensures stopped { (was : List ℕ) → IsReady self.now.layout.now (stages_of self.now) was → HasWords self.now.layout.now self.now.words.now was
             → StopLeaves slot (Blend self.now.layout.now was (stages_of self.now)) (seen S.Shows shelf.old)
@@ -152,60 +149,48 @@ impl Commit<'_> {
         }
         Ok(())
     }
-}
 
-/// Writes the new tables to their places, of each word 2,048 bytes.
-pub(crate) fn write_tables<S: Shelf>(
-    shelf: &mut S,
-    slot: Slot,
-    words: &[StagedWord],
-    tables: &[u8],
-) -> Result<(), Failed>
-    requires { length tables.now ≡ 2048 * length words.now }
-    ensures stopped { (entries : List Entry) → StopsLeave slot (IsNearOutcome (record { entries = entries; words = words.now }) slot (seen S.Shows shelf.old).world.events)
-        (seen S.Shows shelf.old) (seen S.Shows shelf.new) }
-    ensures near { (entries : List Entry) → Tells (seen S.Shows shelf.old) → OnOk result (Near (record { entries = entries; words = words.now })
-        (file_of (seen S.Shows shelf.old).world slot) (file_of (seen S.Shows shelf.new).world slot)) }
-    ensures now { Tells (seen S.Shows shelf.old) → AreDisjoint words.now → OnOk result (AreTablesWritten words.now tables.now (length words.now) (file_of (seen S.Shows shelf.new).world slot)) }
-    ensures sure { Tells (seen S.Shows shelf.old) → IsSure (seen S.Shows shelf.old).world → OnOk result (IsSure (seen S.Shows shelf.new).world) }
-    ensures others { OnlyIn slot (seen S.Shows shelf.old) (seen S.Shows shelf.new) }
-    ensures fails { Fails Writes result (seen S.Shows shelf.old) (seen S.Shows shelf.new) }
-{
-    for i in 0..words.len() {
-        let at = i * TABLE_LEN as usize;
-        write_table(
-            shelf,
-            slot,
-            words[i].pos,
-            &tables[at..at + TABLE_LEN as usize],
-        )?;
+    /// Writes the new tables to their places.
+    fn write_tables<S: Shelf>(&self, shelf: &mut S, slot: Slot) -> Result<(), Failed>
+        requires { IsCommit self.now }
+        ensures stopped { StopsLeave slot (IsNearOutcome (stages_of self.now) slot (seen S.Shows shelf.old).world.events)
+            (seen S.Shows shelf.old) (seen S.Shows shelf.new) }
+        ensures near { Tells (seen S.Shows shelf.old) → OnOk result (Near (stages_of self.now)
+            (file_of (seen S.Shows shelf.old).world slot) (file_of (seen S.Shows shelf.new).world slot)) }
+        ensures now { Tells (seen S.Shows shelf.old) → AreDisjoint self.now.moved.now
+            → OnOk result (AreTablesWritten self.now.moved.now self.now.tables.now (length self.now.moved.now)
+            (file_of (seen S.Shows shelf.new).world slot)) }
+        ensures sure { Tells (seen S.Shows shelf.old) → IsSure (seen S.Shows shelf.old).world → OnOk result (IsSure (seen S.Shows shelf.new).world) }
+        ensures others { OnlyIn slot (seen S.Shows shelf.old) (seen S.Shows shelf.new) }
+        ensures fails { Fails Writes result (seen S.Shows shelf.old) (seen S.Shows shelf.new) }
+    {
+        for i in 0..self.moved.len() {
+            let at = i * TABLE_LEN as usize;
+            let table = &self.tables[at..at + TABLE_LEN as usize];
+            write_table(shelf, slot, self.moved[i].pos, table)?;
+        }
+        Ok(())
     }
-    Ok(())
-}
 
-/// Writes the staged words.
-pub(crate) fn write_words<S: Shelf>(
-    shelf: &mut S,
-    slot: Slot,
-    l: &Layout,
-    words: &[StagedWord],
-) -> Result<(), Failed>
-    requires order { IsStrictlyIncreasing (staged_groups words.now) }
-    requires there { AllByRecursion (λ s. s.group < l.now.groups) words.now }
-    ensures stopped { (was : List ℕ) (entries : List Entry) → IsReady l.now (record { entries = entries; words = words.now }) was
-        → StopLeaves slot (Blend l.now was (record { entries = entries; words = words.now })) (seen S.Shows shelf.old)
-        → StopsLeave slot (Blend l.now was (record { entries = entries; words = words.now })) (seen S.Shows shelf.old) (seen S.Shows shelf.new) }
-    ensures now { (was : List ℕ) (entries : List Entry) → IsReady l.now (record { entries = entries; words = words.now }) was → Tells (seen S.Shows shelf.old)
-        → file_of (seen S.Shows shelf.old).world slot ≡ was
-        → OnOk result (AreWordsWritten l.now was (record { entries = entries; words = words.now }) (length words.now) (file_of (seen S.Shows shelf.new).world slot)) }
-    ensures sure { Tells (seen S.Shows shelf.old) → IsSure (seen S.Shows shelf.old).world → OnOk result (IsSure (seen S.Shows shelf.new).world) }
-    ensures others { OnlyIn slot (seen S.Shows shelf.old) (seen S.Shows shelf.new) }
-    ensures fails { Fails Writes result (seen S.Shows shelf.old) (seen S.Shows shelf.new) }
-{
-    for word in words {
-        write_word(shelf, slot, l.order, *word)?;
+    /// Writes the staged words.
+    fn write_words<S: Shelf>(&self, shelf: &mut S, slot: Slot) -> Result<(), Failed>
+        requires { IsCommit self.now }
+        ensures stopped { (was : List ℕ) → IsReady self.now.layout.now (stages_of self.now) was
+            → StopLeaves slot (Blend self.now.layout.now was (stages_of self.now)) (seen S.Shows shelf.old)
+            → StopsLeave slot (Blend self.now.layout.now was (stages_of self.now)) (seen S.Shows shelf.old) (seen S.Shows shelf.new) }
+        ensures now { (was : List ℕ) → IsReady self.now.layout.now (stages_of self.now) was → Tells (seen S.Shows shelf.old)
+            → file_of (seen S.Shows shelf.old).world slot ≡ was
+            → OnOk result (AreWordsWritten self.now.layout.now was (stages_of self.now) (length self.now.moved.now)
+            (file_of (seen S.Shows shelf.new).world slot)) }
+        ensures sure { Tells (seen S.Shows shelf.old) → IsSure (seen S.Shows shelf.old).world → OnOk result (IsSure (seen S.Shows shelf.new).world) }
+        ensures others { OnlyIn slot (seen S.Shows shelf.old) (seen S.Shows shelf.new) }
+        ensures fails { Fails Writes result (seen S.Shows shelf.old) (seen S.Shows shelf.new) }
+    {
+        for word in self.moved {
+            write_word(shelf, slot, self.layout.order, *word)?;
+        }
+        Ok(())
     }
-    Ok(())
 }
 
 /// Whether a group has a new table.
