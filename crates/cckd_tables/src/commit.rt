@@ -10,7 +10,7 @@ ghost use Rattle.cckd_shelf.specs.Frame.{OnlyIn};
 ghost use Rattle.cckd_tables.specs.declared.staged.StagedEntry.{StagedEntry as Entry};
 ghost use Rattle.cckd_tables.specs.Tables.{HasWords};
 ghost use Rattle.cckd_tables.specs.Blend.{Near, Blend, IsCommitted};
-ghost use Rattle.cckd_tables.specs.Commit.{staged_groups, IsNearOutcome, stages_of, IsCommit, MayCommit, MayLeave, IsBlended, IsCommittedFrom, IsSyncedNow, CountsCommit};
+ghost use Rattle.cckd_tables.specs.Commit.{staged_groups, IsNearOutcome, stages_of, IsCommit, MayCommit, MayLeave, IsBlended, IsCommittedFrom, SpellsNewEntries, IsSyncedNow, CountsCommit};
 ghost use Rattle.cckd_tables.specs.Cells.{AreDisjoint, AreTablesWritten, IsReady, AreWordsWritten};
 
 use crate::cell::{write_table, write_word};
@@ -50,6 +50,8 @@ impl Commit<'_> {
             (file_of (seen S.Shows shelf.old).world slot) (file_of (seen S.Shows shelf.new).world slot)) }
         ensures tables { MayCommit self.now slot (seen S.Shows shelf.old) → OnOk result (AreTablesWritten self.now.moved.now self.now.tables.now (length self.now.moved.now)
             (file_of (seen S.Shows shelf.new).world slot)) }
+        ensures spelled { MayCommit self.now slot (seen S.Shows shelf.old) → OnOk result (SpellsNewEntries self.now.layout.now (stages_of self.now)
+            (file_of (seen S.Shows shelf.old).world slot) (file_of (seen S.Shows shelf.new).world slot)) }
         ensures sure { Tells (seen S.Shows shelf.old) → IsSure (seen S.Shows shelf.old).world → OnOk result (IsSure (seen S.Shows shelf.new).world) }
         ensures others { OnlyIn slot (seen S.Shows shelf.old) (seen S.Shows shelf.new) }
         ensures counts { CountsCommit result (seen S.Shows shelf.old).faults (seen S.Shows shelf.new).faults }

@@ -1,7 +1,7 @@
-use Rattle.std.proofs.Common.{◌≡◌, ◌*◌, length, sym, ◌∙◌, ap, arith}
+use Rattle.std.proofs.Common.{◌*◌, length, ◌∙◌, ap, arith}
 use Rattle.cckd_shelf.specs.Seen.{seen}
 use Rattle.cckd_tables.specs.declared.staged.StagedWord.{StagedWord}
-use Rattle.cckd_tables.proofs.TableLoopLemmas.{tables_stopped, tables_next, table_part, table_long, write_others, fails_then}
+use Rattle.cckd_tables.proofs.TableLoopLemmas.{tables_stopped, tables_next, table_part, table_long, write_others}
 use Rattle.cckd_tables.proofs.commit.write_tables.Goals as goal
 
 abbrev blank : StagedWord

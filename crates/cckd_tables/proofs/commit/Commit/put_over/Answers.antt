@@ -1,4 +1,4 @@
-use Rattle.std.proofs.Common.{ℕ, List, length}
+use Rattle.std.proofs.Common.{length}
 use Rattle.cckd_shelf.specs.Seen.{seen}
 use Rattle.cckd_shelf.specs.World.{file_of}
 use Rattle.cckd_shelf.specs.Outcomes.{EachOutcome}
