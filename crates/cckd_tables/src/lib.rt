@@ -18,6 +18,8 @@ mod surveyed;
 mod table;
 mod tables;
 #[cfg(test)]
+mod table_tests;
+#[cfg(test)]
 mod tests;
 mod words;
 
