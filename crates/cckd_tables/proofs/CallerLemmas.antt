@@ -1,10 +1,9 @@
 -- What callers know of tables and the file of their slot.
-use Rattle.std.proofs.Common.{◌≡◌, ℕ, ◌+◌, ◌*◌, ◌/◌, ◌%◌, ◌<◌, ◌≤◌, List, [], ◌∷◌, length, slice_index, unwrap_or, refl, sym, ◌∙◌, ap, subst, arith}
+use Rattle.std.proofs.Common.{◌≡◌, ℕ, ◌+◌, ◌<◌, ◌≤◌, List, [], ◌∷◌, length, unwrap_or, refl, sym, ◌∙◌, ap, subst, arith}
 use Rattle.std.specs.List.{AllByRecursion}
-use Rattle.std.specs.Int.{w32}
 use Rattle.cckd_base.specs.declared.geometry.Layout.{Layout}
 use Rattle.cckd_base.specs.Geometry.{area_of}
-use Rattle.cckd_base.specs.Numbers.{number_of, bytes_at}
+use Rattle.cckd_base.specs.Numbers.{bytes_at}
 use Rattle.cckd_base.specs.Entry.{word_at, entry_in_table}
 use Rattle.cckd_base.specs.Image.{IsPlace}
 use Rattle.cckd_base.specs.Survey.{HasNoMisfit}
@@ -13,9 +12,9 @@ use Rattle.cckd_base.proofs.ImageLemmas.{word_fits}
 use Rattle.cckd_shelf.specs.Seen.{Seen, Tells, HasBytes}
 use Rattle.cckd_shelf.specs.World.{IsSure, file_of}
 use Rattle.cckd_tables.specs.Staging.{place_for, new_word}
-use Rattle.cckd_tables.specs.Tables.{CachedTable, TableView, HasWords, HasTables, IsCachedOf, AreOf}
+use Rattle.cckd_tables.specs.Tables.{CachedTable, TableView, HasTables, IsCachedOf, AreOf}
 use Rattle.cckd_tables.specs.Looking.{LoadsWords, IsOfSlot, word_of}
-use Rattle.cckd_tables.proofs.LookLemmas.{entry_read}
+use Rattle.cckd_tables.proofs.TableLemmas.{entry_read}
 
 -- the tables of a file without misfits end inside it
 pub sound_tables : (l : Layout) (file : List ℕ) → HasNoMisfit l file → HasTables l file
@@ -55,6 +54,7 @@ same_of v old new of longer words tables = record {
         known.entries t own ∙ same_table v.layout old new (word_at v.layout old c.group) t (tables c.group known.group known.named)
         ∙ ap (λ w. entry_in_table v.layout new w t) (sym (words c.group known.group));
   }
+
   each : (cs : List CachedTable) → AllByRecursion (IsCachedOf v.layout old) cs → AllByRecursion (IsCachedOf v.layout new) cs
   each [] known = tt
   each (c ∷ cs) known = (one c known.0, each cs known.1)

@@ -16,9 +16,9 @@ mod staged;
 mod stages;
 mod surveyed;
 mod table;
-mod tables;
 #[cfg(test)]
 mod table_tests;
+mod tables;
 #[cfg(test)]
 mod tests;
 mod words;

@@ -13,12 +13,7 @@ use std::alloc::Global;
 use std::test::Fail;
 
 /// New tables of a sound file, with its words.
-fn opened<T: Stage>(
-    alloc: Global,
-    l: &Layout,
-    stage: &mut T,
-    slot: Slot,
-) -> Result<Tables, Fail>
+fn opened<T: Stage>(alloc: Global, l: &Layout, stage: &mut T, slot: Slot) -> Result<Tables, Fail>
     requires { IsLayout l.now }
     ensures of { IfOk result (λ t. IsOfSlot t slot (seen T.Shows stage.new)) }
     ensures layout { IfOk result (λ t. t.layout ≡ l.now) }

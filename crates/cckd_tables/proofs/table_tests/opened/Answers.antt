@@ -1,6 +1,6 @@
-use Rattle.std.proofs.Common.{◌≡◌, ◌≤◌, length, sym, ◌∙◌, subst, arith}
+use Rattle.std.proofs.Common.{◌≤◌, length, sym, ◌∙◌, subst, arith}
 use Rattle.cckd_base.specs.Geometry.{area_of}
-use Rattle.cckd_shelf.specs.Seen.{seen, Tells}
+use Rattle.cckd_shelf.specs.Seen.{seen}
 use Rattle.cckd_shelf.specs.World.{World, IsSure, file_of}
 use Rattle.cckd_tables.specs.Tables.{TableView, HasTables, AreOf}
 use Rattle.cckd_tables.proofs.CallerLemmas.{sound_tables, loaded_of}
