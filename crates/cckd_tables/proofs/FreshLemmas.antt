@@ -208,9 +208,6 @@ can_commit l stages was layout order image fresh = record {
             (λ t low moved. ap (λ (w : ℕ). entry_in_table l mid w t) (moved_word l stages was mid (t / 256) moved) ∙ (has.spelled t moved ∙ sym (same_entry l stages was mid t (stays.entry t low))));
         words = stays.word;
         entries = stays.entry;
-        tables = λ g low named.
-            let k = table_inside l (length was) g (word_at l was g) (image.words g low) named in
-            near_part stages was mid (word_at l was g) 2048 (word_at l was g) 2048 near ((clear_of_fresh l stages was order fresh).tables g low named) (omega arith) (omega arith) k.1;
         bytes = λ t low. new_bytes_near l stages was mid t order image fresh near low;
       };
 }

@@ -1,5 +1,6 @@
 -- The tables that a commit leaves, at all 256 places of a group.
 use Rattle.std.proofs.Common.{◌≡◌, ◌≢◌, ℕ, ◌*◌, ◌/◌, ◌%◌, ◌<◌, ◌≤◌, ◌==◌, List, [], ◌∷◌, length, drop, Some, None, refl, sym, ◌∙◌, ap, subst, inl, inr, arith}
+use Rattle.std.specs.Prelude.{is_some}
 use Rattle.std.specs.List.{AllByRecursion}
 use Rattle.std.proofs.lemmas.Bool.{cases_eq, cases_lt, cond-false, ne_eqb}
 use Rattle.std.proofs.lemmas.List.{length-take, length-drop}
@@ -11,17 +12,18 @@ use Rattle.cckd_base.specs.declared.entry.L2Entry.{L2Entry}
 use Rattle.cckd_base.specs.Geometry.{track_count, area_of, IsLayout}
 use Rattle.cckd_base.specs.Numbers.{bytes_at}
 use Rattle.cckd_base.specs.Entry.{word_at, entry_at, entry_of, entry_bytes, entry_in_table}
-use Rattle.cckd_base.specs.Image.{IsPlace}
-use Rattle.cckd_base.proofs.PlaceLemmas.{table_inside, by_table}
+use Rattle.cckd_base.specs.Image.{IsPlace, ShareNoByte}
+use Rattle.cckd_base.proofs.PlaceLemmas.{turned, table_inside, by_table}
 use Rattle.cckd_tables.specs.declared.staged.StagedEntry.{StagedEntry}
 use Rattle.cckd_tables.specs.Staging.{Stages, entry_for, IsMoved, new_entry, new_word}
 use Rattle.cckd_tables.specs.Tables.{HasTables}
 use Rattle.cckd_tables.specs.Blend.{HasNewTables, with_put, put_over, IsCommitted}
 use Rattle.cckd_tables.specs.Commit.{AreInOrder, IsSynced, IsCommittedFrom}
 use Rattle.cckd_tables.specs.Cells.{entry_among}
-use Rattle.cckd_tables.proofs.StagedLemmas.{new_entry_plain, new_word_plain, moved_word, same_entry, same_word, moved_or_not}
+use Rattle.cckd_tables.proofs.StagedLemmas.{new_word_at, new_entry_plain, new_word_plain, moved_word, same_entry, same_word, moved_or_not}
 use Rattle.cckd_tables.proofs.WrittenLemmas.{part_stays}
 use Rattle.cckd_tables.proofs.BlendLemmas.{blend_image}
+use Rattle.cckd_tables.proofs.FreshLemmas.{near_part, beside_each}
 use Rattle.cckd_tables.proofs.PutOverLemmas.{with_put_own, with_put_other}
 use Rattle.cckd_tables.proofs.TableLemmas.{entry_read}
 
@@ -69,7 +71,19 @@ past_none n t (s ∷ ss) past h =
 -- ---- all places of a table
 
 module _ (l : Layout) (stages : Stages) (was mid file : List ℕ) (layout : IsLayout l) (order : AreInOrder l stages) (s : IsSynced l stages was mid) (c : IsCommitted l mid stages file)
-    (has : HasNewTables l stages was file) where
+    (has : HasNewTables l stages was file) (inside_was : HasTables l was) where
+  -- an old table stays while the new ones are written
+  table_stays : (g : ℕ) → g < l.groups → IsPlace (word_at l was g) → bytes_at mid (word_at l was g) 2048 ≡ bytes_at was (word_at l was g) 2048
+  table_stays g low named =
+      let w = word_at l was g in
+      let same : word_at l mid g ≡ w = s.words g low in
+      near_part stages was mid w 2048 w 2048 s.near
+      (beside_each l stages w 2048 order (λ h p there own.
+      turned p 2048 w 2048
+      (subst (λ (v : ℕ). ShareNoByte p 2048 v 2048) same
+      (subst (λ (q : ℕ). ShareNoByte q 2048 (word_at l mid g) 2048) (new_word_at l stages mid h p own) (s.can_blend.apart h g there low (ap is_some own) (subst IsPlace (sym same) named))))))
+      (omega arith) (omega arith) (inside_was g low named)
+
   -- of a group that isn't moved
   plain_places : (g t : ℕ) → g < l.groups → (IsMoved g stages → ⊥) → IsPlace (word_at l was g) → t / 256 ≡ g → entry_in_table l file (word_at l was g) t ≡ new_entry l stages was t
   plain_places g t low not named mine =
@@ -88,9 +102,9 @@ module _ (l : Layout) (stages : Stages) (was mid file : List ℕ) (layout : IsLa
         | inr past ↦
             let bytes : bytes_at file w 2048 ≡ put_over l.order g stages.entries (bytes_at was w 2048) =
             ap (λ (v : ℕ). bytes_at file v 2048) (sym same) ∙ (c.tables g low not named_mid
-            ∙ ap (put_over l.order g stages.entries) (ap (λ (v : ℕ). bytes_at mid v 2048) same ∙ s.tables g low named)) in
+            ∙ ap (put_over l.order g stages.entries) (ap (λ (v : ℕ). bytes_at mid v 2048) same ∙ table_stays g low named)) in
             let size : length (bytes_at was w 2048) ≡ 2048 =
-            sym (ap length (s.tables g low named)) ∙ omega (arith, length-take 2048 (drop w mid), length-drop w mid, inside.1, same) in
+            sym (ap length (table_stays g low named)) ∙ omega (arith, length-take 2048 (drop w mid), length-drop w mid, inside.1, same) in
             sym (entry_read l file (bytes_at file w 2048) w t refl)
             ∙ (ap (λ (x : List ℕ). entry_among l.order x t) bytes
             ∙ (put_over_beside l.order g t stages.entries (bytes_at was w 2048) size mine (below_none (track_count l.geo) t stages.entries past order.tracks_there)

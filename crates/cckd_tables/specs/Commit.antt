@@ -95,7 +95,6 @@ pub record IsSynced (l : Layout) (stages : Stages) (was mid : List ℕ) : Type 0
   pub can_blend : CanBlend l stages mid
   pub words : (g : ℕ) → g < l.groups → word_at l mid g ≡ word_at l was g
   pub entries : (t : ℕ) → t < track_count l.geo → entry_at l mid t ≡ entry_at l was t
-  pub tables : (g : ℕ) → g < l.groups → IsPlace (word_at l was g) → bytes_at mid (word_at l was g) 2048 ≡ bytes_at was (word_at l was g) 2048
   pub bytes : (t : ℕ) → t < track_count l.geo → IsPlace (new_entry l stages was t).pos
       → bytes_at mid (new_entry l stages was t).pos (new_entry l stages was t).len ≡ bytes_at was (new_entry l stages was t).pos (new_entry l stages was t).len
 

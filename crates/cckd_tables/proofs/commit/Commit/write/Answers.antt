@@ -85,7 +85,7 @@ returns-clause-tables g c = λ may.
     tables_stay l stages (file_of mid.world c.args.slot) (file_of new.world c.args.slot) c.args.self.now.tables.now ready c.requires.order committed.blend (c.in_ok-prepare.ensures.tables may)
 
 pub returns-clause-spelled : goal.returns-clause-spelled
-returns-clause-spelled g c = λ may.
+returns-clause-spelled g c = λ may inside.
     let l = c.args.self.now.layout.now in
     let stages = stages_of c.args.self.now in
     let mid = file_of (seen g.S.Shows c.prepare.new.shelf).world c.args.slot in
@@ -95,4 +95,4 @@ returns-clause-spelled g c = λ may.
     let ready = ready_of l stages was mid c.requires.layout synced.synced in
     let committed = c.in-Ok.ensures.now mid ready (words_of l c.args.self.now.words.now stages was mid synced.synced may.words) may.tells refl in
     all_places l stages was mid file c.requires.layout c.requires.order synced.synced committed
-    (has_new l stages was file c.args.self.now.tables.now may.spelled (tables_stay l stages mid file c.args.self.now.tables.now ready c.requires.order committed.blend (c.in_ok-prepare.ensures.tables may)))
+    (has_new l stages was file c.args.self.now.tables.now may.spelled (tables_stay l stages mid file c.args.self.now.tables.now ready c.requires.order committed.blend (c.in_ok-prepare.ensures.tables may))) inside
