@@ -1,0 +1,64 @@
+-- What a layer answers to a read of a track, and what a read does to the outside.
+use Rattle.std.specs.Prelude.{ℕ, ◌≡◌, List, ◌++◌, length, drop, Option, Some, None, Result, Ok, Err}
+use Rattle.cckd_shelf.specs.declared.fault.Faults.{Faults}
+use Rattle.cckd_shelf.specs.declared.fault.Kind.TheVariants.{Reads}
+use Rattle.cckd_shelf.specs.Faults.{Raises}
+use Rattle.cckd_shelf.specs.Seen.{Seen, Tells, Stays}
+use Rattle.cckd_shelf.specs.World.{IsSure, file_of}
+use Rattle.cckd_base.specs.declared.fault.TrackFault.{TrackFault}
+use Rattle.cckd_base.specs.declared.layer_fault.LayerFault.{LayerFault}
+use Rattle.cckd_base.specs.declared.layer_fault.LayerFault.TheVariants as fault
+use Rattle.cckd_layer.specs.declared.held.Held.{Held}
+use Rattle.cckd_layer.specs.declared.held.Held.TheVariants.{Here, Below}
+
+-- a fact of the file in a slot, as far as it is told what the file holds
+abbrev pub OfFile : ℕ → (List ℕ → Type 0) → Seen → Type 0
+OfFile slot P s = Tells s → IsSure s.world → P (file_of s.world slot)
+
+-- whether the layer has the track, by the bytes that it has of it
+abbrev pub held_of : Option (List ℕ) → Held
+held_of (Some bytes) = Here (length bytes)
+held_of None = Below
+
+-- a buffer with these bytes, if there are some, put over its front
+abbrev pub filled_with : Option (List ℕ) → List ℕ → List ℕ
+filled_with (Some bytes) out = bytes ++ drop (length bytes) out
+filled_with None out = out
+
+-- The answer to a read of a track of which the layer has these bytes: how many they are, and the bytes at the front of the
+-- buffer; or that the track is looked up below, and a buffer that is as it was.
+pub record Answers (bytes : Option (List ℕ)) (answer : Held) (old new : List ℕ) : Type 0 where
+  pub said : answer ≡ held_of bytes
+  pub filled : new ≡ filled_with bytes old
+
+-- the first fault that a check finds in the bytes, if there are some
+abbrev pub fault_in : (List ℕ → Option TrackFault) → Option (List ℕ) → Option TrackFault
+fault_in check (Some bytes) = check bytes
+fault_in check None = None
+
+-- a check that found this refuses the bytes by their fault
+abbrev pub CheckRefuses : Option TrackFault → LayerFault → Type 0
+CheckRefuses None refusal = ⊥
+CheckRefuses (Some why) refusal = refusal ≡ fault.Track why
+
+-- why a read has no answer: the bytes have this fault, or a call that reads failed
+abbrev pub IsReadRefusal : Option TrackFault → LayerFault → Type 0
+IsReadRefusal found (fault.Track why) = found ≡ Some why
+IsReadRefusal found fault.ReadFault = Unit {0}
+IsReadRefusal found (fault.Full numbers) = ⊥
+IsReadRefusal found fault.WriteFault = ⊥
+IsReadRefusal found fault.SyncFault = ⊥
+
+-- a fault of reading raised its count and no other, and all else left the counts
+abbrev pub CountsReads : {A : Type 0} → Result A LayerFault → Faults → Faults → Type 0
+CountsReads (Ok answer) old new = new ≡ old
+CountsReads (Err (fault.Track why)) old new = new ≡ old
+CountsReads (Err fault.ReadFault) old new = Raises Reads old new
+CountsReads (Err (fault.Full numbers)) old new = new ≡ old
+CountsReads (Err fault.WriteFault) old new = new ≡ old
+CountsReads (Err fault.SyncFault) old new = new ≡ old
+
+-- nothing was changed, and only a fault of reading was counted
+pub record OnlyReads {A : Type 0} (result : Result A LayerFault) (old new : Seen) : Type 0 where
+  pub kept : Stays old new
+  pub counts : CountsReads result old.faults new.faults
