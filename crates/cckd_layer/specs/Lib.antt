@@ -1,0 +1,6 @@
+pub mod Held
+pub mod Sits
+pub mod Current
+pub mod Changes
+pub mod Stands
+pub mod Closed

@@ -1,0 +1,7 @@
+//! One image that is written: what holds of its file between calls, and the acts that keep it so.
+#![tactic(auto)]
+
+pub use cckd_base::Layout;
+pub use cckd_shelf::Slot;
+pub use cckd_space::Space;
+pub use cckd_tables::{StagedEntry, StagedWord};
