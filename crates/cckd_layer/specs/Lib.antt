@@ -1,1 +1,7 @@
+pub mod Held
+pub mod Sits
+pub mod Current
+pub mod Changes
+pub mod Stands
+pub mod Closed
 pub mod Reads

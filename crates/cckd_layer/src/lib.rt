@@ -1,7 +1,11 @@
-//! One image that is written: its tables, its space, and the tracks that it holds.
+//! One image that is written: what holds of its file between calls, and the acts that keep it so.
 #![tactic(auto)]
 
 mod held;
 mod reading;
 
+pub use cckd_base::Layout;
+pub use cckd_shelf::Slot;
+pub use cckd_space::Space;
+pub use cckd_tables::{StagedEntry, StagedWord};
 pub use held::Held;
