@@ -1,3 +1,4 @@
+pub mod Device
 pub mod Inside
 pub mod Kept
 pub mod Scan

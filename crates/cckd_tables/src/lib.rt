@@ -1,6 +1,7 @@
 //! The two-level tables of one image: the survey of all that they name.
 #![tactic(auto)]
 
+mod device;
 mod item;
 mod kept;
 mod progress;
@@ -11,5 +12,6 @@ mod surveyed;
 mod tests;
 
 pub use cckd_base::{Extent, Layout, Misfit, Owner, ScanFault};
+pub use device::Device;
 pub use staged::{StagedEntry, StagedWord};
 pub use surveyed::{SurveyFault, Surveyed, scan, survey};
