@@ -1,1 +1,4 @@
 pub mod ReadLemmas
+pub mod PieceLemmas
+pub mod MountLemmas
+pub mod RoleLemmas

@@ -5,3 +5,4 @@ pub mod Changes
 pub mod Stands
 pub mod Closed
 pub mod Reads
+pub mod Mounted

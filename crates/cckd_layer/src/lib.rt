@@ -9,3 +9,5 @@ pub use cckd_shelf::Slot;
 pub use cckd_space::Space;
 pub use cckd_tables::{StagedEntry, StagedWord};
 pub use held::Held;
+
+mod laws;

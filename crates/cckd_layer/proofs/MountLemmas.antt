@@ -1,0 +1,178 @@
+-- What a file that was surveyed and found without a misfit has to do with the pieces that are made of it.
+use Rattle.std.proofs.Common.{◌≡◌, ◌⊎◌, ℕ, ◌+◌, ◌-◌, ◌/◌, ◌<◌, ◌≤◌, max, min, Bool, true, false, List, [], ◌∷◌, length, Option, None, Some, unwrap_or, refl, sym, ◌∙◌, ap, subst, inl, inr, arith}
+use Rattle.std.proofs.lemmas.Bool.{false≢true}
+use Rattle.cckd_shelf.specs.World.{World, IsSure, file_of}
+use Rattle.cckd_shelf.specs.Outcomes.{EachOutcome}
+use Rattle.cckd_shelf.specs.Seen.{Seen, Tells}
+use Rattle.cckd_shelf.proofs.OutcomeLemmas.{now_is_outcome}
+use Rattle.cckd_base.specs.declared.geometry.Layout.{Layout}
+use Rattle.cckd_base.specs.declared.entry.L2Entry.{L2Entry}
+use Rattle.cckd_base.specs.declared.space.Extent.{Extent}
+use Rattle.cckd_base.specs.declared.space.Owner.TheVariants.{Track}
+use Rattle.cckd_base.specs.Geometry.{track_count, area_of, format_limit, IsLayout}
+use Rattle.cckd_base.specs.Entry.{word_at, entry_at}
+use Rattle.cckd_base.specs.Misfit.{entry_misfit}
+use Rattle.cckd_base.specs.Survey.{header_space, table_space, track_space, used_spaces, HasNoMisfit, StandApart}
+use Rattle.cckd_base.specs.Image.{IsPlace, IsHeaded, IsSnug, IsImage}
+use Rattle.cckd_base.proofs.MemberLemmas.{In}
+use Rattle.cckd_base.proofs.HeaderLemmas.{headed_layout, headed_area, headed_short}
+use Rattle.cckd_base.proofs.ImageLemmas.{IsNamed, named_used, used_named, size_is, image_of_survey, entry_fits}
+use Rattle.cckd_space.specs.declared.piece.Piece.{Piece}
+use Rattle.cckd_space.specs.declared.piece.Kind.TheVariants.{Used, Leaving, Reserved}
+use Rattle.cckd_space.specs.Pieces.{Has, pieces_of, used_piece, IsLaid}
+use Rattle.cckd_space.specs.Plan.{Plan}
+use Rattle.cckd_space.proofs.LaidLemmas.{laid_pieces_of}
+use Rattle.cckd_tables.specs.Staging.{Stages, IsStaged, IsMoved, new_entry, entry_for}
+use Rattle.cckd_tables.specs.Tables.{TableView, AreOf}
+use Rattle.cckd_layer.specs.Sits.{IsWhole, IsHeld, Rests, Sits, identifiers_for}
+use Rattle.cckd_layer.specs.Current.{stored_space, IsTableOf, IsTrackOf, IsInUse, IsReplaced, IsNew, IsPlaced, AreExactly, leaving_piece, placed_piece, Spans, Current}
+use Rattle.cckd_layer.specs.Stands.{LayerView, Stands, nothing_staged}
+use Rattle.cckd_layer.specs.Mounted.{ReadsFrom}
+use Rattle.std.specs.Option.{is_some}
+use Rattle.cckd_layer.proofs.PieceLemmas.{used_there, used_from, none_leaving, none_reserved, ends_within}
+
+-- what was found of a file: its headers say the layout, its tables have no misfit, and each of its spaces ends inside it
+pub record IsFound (l : Layout) (file : List ℕ) : Type 0 where
+  pub headed : IsHeaded (identifiers_for l) l file
+  pub clean : HasNoMisfit l file
+  pub snug : IsSnug l file
+  pub apart : StandApart 0 (used_spaces l file) (length file)
+
+none_staged : (t : ℕ) → IsStaged t nothing_staged → ⊥
+none_staged t h = false≢true h
+
+none_moved : (g : ℕ) → IsMoved g nothing_staged → ⊥
+none_moved g h = false≢true h
+
+module _ (l : Layout) (file : List ℕ) (found : IsFound l file) where
+  layout : IsLayout l
+  layout = headed_layout (identifiers_for l) l file found.headed
+
+  -- of a space that ends inside the file nothing is cut short
+  same_space : (t : ℕ) → t < track_count l.geo → IsPlace (entry_at l file t).pos → track_space (length file) t (entry_at l file t) ≡ stored_space t (entry_at l file t)
+  same_space t low place =
+      let e = entry_at l file t in
+      let n : (track_space (length file) t e).size ≡ e.size = size_is l file t found.snug low place in
+      ap (λ (s : ℕ). record { pos = e.pos; len = e.len; size = s; owner = Track t }) n
+
+  use_named : (e : Extent) → IsInUse l nothing_staged file e → IsNamed l file e
+  use_named e (inl header) = inl header
+  use_named e (inr (inl g)) = let t = g.2 in inr (inl (g.0, t.low, t.place, t.is))
+  use_named e (inr (inr t)) = let u = t.2 in inr (inr (t.0, u.low, u.place, u.is ∙ sym (same_space t.0 u.low u.place)))
+
+  named_use : (e : Extent) → IsNamed l file e → IsInUse l nothing_staged file e
+  named_use e (inl header) = inl header
+  named_use e (inr (inl g)) = inr (inl (g.0, none_moved g.0, record { low = g.1; place = g.2; is = g.3 }))
+  named_use e (inr (inr t)) = inr (inr (t.0, none_staged t.0, record { low = t.1; place = t.2; is = t.3 ∙ same_space t.0 t.1 t.2 }))
+
+  in_use_there : (e : Extent) → IsInUse l nothing_staged file e → Has (used_piece e) (pieces_of 0 (used_spaces l file) (length file))
+  in_use_there e u = used_there e 0 (used_spaces l file) (length file) (named_used l file e layout found.clean (use_named e u))
+
+  pub mounted_image : IsImage l file
+  mounted_image = image_of_survey l file layout (headed_area (identifiers_for l) l file found.headed) found.clean found.snug
+
+  in_use_held : (e : Extent) → IsInUse l nothing_staged file e → IsHeld (pieces_of 0 (used_spaces l file) (length file)) e.pos e.size
+  in_use_held e u = record { piece = used_piece e; there = in_use_there e u; kind = refl; low = omega arith; high = omega arith }
+
+  -- it sits in its pieces
+  pub mounted_sits : Sits l (pieces_of 0 (used_spaces l file) (length file)) file
+  mounted_sits = record {
+    whole = record { headed = found.headed; image = mounted_image };
+    rests = record {
+      area = in_use_held (header_space l.groups) (inl refl);
+      tables = λ g low place. in_use_held (table_space g (word_at l file g)) (inr (inl (g, none_moved g, record { low = low; place = place; is = refl })));
+      tracks = λ t low place. in_use_held (stored_space t (entry_at l file t)) (inr (inr (t, none_staged t, record { low = low; place = place; is = refl })));
+    };
+  }
+
+  laid : IsLaid 0 (pieces_of 0 (used_spaces l file) (length file)) (length file)
+  laid = laid_pieces_of 0 (used_spaces l file) (length file) found.apart
+
+  not_replaced : (e : Extent) → IsReplaced l nothing_staged file e → ⊥
+  not_replaced e (inl g) = none_moved g.0 g.1
+  not_replaced e (inr t) = none_staged t.0 t.1
+
+  not_placed : (e : Extent) → IsPlaced l nothing_staged [] file e → ⊥
+  not_placed e (inl (inl g)) = none_moved g.0 g.1.moved
+  not_placed e (inl (inr t)) = none_staged t.0 t.1.staged
+  not_placed e (inr none) = none
+
+  -- and it is the file of a layer that has nothing staged and these pieces
+  pub mounted_current : (limit spare : ℕ) → limit ≤ format_limit
+      → Current l nothing_staged [] (record { pieces = pieces_of 0 (used_spaces l file) (length file); size = length file; limit = limit; spare = spare }) file
+  mounted_current limit spare short =
+      let used = used_spaces l file in
+      record {
+        spans = record {
+          laid = laid;
+          covers = omega arith;
+          ends = omega arith;
+          inside = λ p there kind. ends_within p 0 (pieces_of 0 used (length file)) (length file) laid there;
+          short = headed_short (identifiers_for l) l file found.headed;
+          limited = short;
+        };
+        used = record {
+          there = in_use_there;
+          named = λ p there kind.
+              let from = used_from p 0 used (length file) there kind in
+              (from.0, named_use from.0 (used_named l file found.clean from.0 from.1), from.2);
+        };
+        leaving = record {
+          there = λ e r. absurd (not_replaced e r);
+          named = λ p there kind. absurd (none_leaving p used (length file) there kind);
+        };
+        reserved = record {
+          there = λ e r. absurd (not_placed e r);
+          named = λ p there kind. absurd (none_reserved p used (length file) there kind);
+        };
+        differ = λ a b x y e. absurd (not_placed a x);
+        claims_are = tt;
+        entries = λ t s. absurd (none_staged t s);
+        words = λ g m. absurd (none_moved g m);
+      }
+
+-- It stands, where whatever a stop leaves is the file now.
+pub mounted_stands : (l : Layout) (file : List ℕ) (plan : Plan) (slot : ℕ) (w : World) → IsFound l file → IsSure w → file_of w slot ≡ file
+    → plan.pieces ≡ pieces_of 0 (used_spaces l file) (length file) → plan.size ≡ length file → plan.limit ≤ format_limit
+    → EachOutcome slot (λ left. left ≡ file) w.events
+    → Stands (record { layout = l; stages = nothing_staged; claims = []; plan = plan; marked = false }) slot w
+mounted_stands l file plan slot w found sure here pieces sized limited each =
+    let ps = pieces_of 0 (used_spaces l file) (length file) in
+    let made : Plan = record { pieces = ps; size = length file; limit = plan.limit; spare = plan.spare } in
+    let same : plan ≡ made =
+        ap (λ (x : List Piece). record { pieces = x; size = plan.size; limit = plan.limit; spare = plan.spare }) pieces
+        ∙ ap (λ (n : ℕ). record { pieces = ps; size = n; limit = plan.limit; spare = plan.spare }) sized in
+    record {
+      sure = sure;
+      now = subst (Current l nothing_staged [] plan) (sym here) (subst (λ (p : Plan). Current l nothing_staged [] p file) (sym same) (mounted_current l file found plan.limit plan.spare limited));
+      each = λ left outcome. subst (Sits l plan.pieces) (sym (each left outcome)) (subst (λ (qs : List Piece). Sits l qs file) (sym pieces) (mounted_sits l file found));
+      marked = λ m. absurd (false≢true m);
+    }
+
+-- a file that was found sound can be read, where nothing is staged
+pub sound_reads : (tables : TableView) (file : List ℕ) → IsLayout tables.layout → HasNoMisfit tables.layout file → tables.stages ≡ nothing_staged → AreOf tables file → ReadsFrom tables file
+sound_reads tables file layout clean none are = record {
+  are = are;
+  entries = λ t low. subst (λ (s : Stages). entry_misfit tables.layout (length file) t (new_entry tables.layout s file t) ≡ None) (sym none)
+      (entry_fits tables.layout file layout clean t low);
+}
+
+entry_can : (l : Layout) (s : Stages) (file : List ℕ) (t : ℕ) (o : Option L2Entry) → entry_for t s.entries ≡ o
+    → (IsStaged t s → entry_misfit l (length file) t (new_entry l s file t) ≡ None) → entry_misfit l (length file) t (entry_at l file t) ≡ None
+    → entry_misfit l (length file) t (new_entry l s file t) ≡ None
+entry_can l s file t None e staged old = subst (λ (o : Option L2Entry). entry_misfit l (length file) t (unwrap_or o (entry_at l file t)) ≡ None) (sym e) old
+entry_can l s file t (Some entry) e staged old = staged (ap is_some e)
+
+-- and so can the file of a layer that stands
+pub stands_reads : (v : LayerView) (tables : TableView) (slot : ℕ) (w : World) → tables.layout ≡ v.layout → tables.stages ≡ v.stages → Stands v slot w
+    → AreOf tables (file_of w slot) → ReadsFrom tables (file_of w slot)
+stands_reads v tables slot w layout stages stands are =
+    let file = file_of w slot in
+    let now : Sits v.layout v.plan.pieces file = stands.each file (now_is_outcome w.events slot) in
+    let each : (t : ℕ) → t < track_count v.layout.geo → entry_misfit v.layout (length file) t (new_entry v.layout v.stages file t) ≡ None =
+        λ t low. entry_can v.layout v.stages file t (entry_for t v.stages.entries) refl (λ s. (stands.now.entries t s).fits) (now.whole.image.entries t low) in
+    record {
+      are = are;
+      entries = subst (λ (l : Layout). (t : ℕ) → t < track_count l.geo → entry_misfit l (length file) t (new_entry l tables.stages file t) ≡ None) (sym layout)
+          (subst (λ (s : Stages). (t : ℕ) → t < track_count v.layout.geo → entry_misfit v.layout (length file) t (new_entry v.layout s file t) ≡ None) (sym stages) each);
+    }
