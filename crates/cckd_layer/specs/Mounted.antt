@@ -1,18 +1,20 @@
 -- What callers see of a layer, and what mounting makes of a file.
-use Rattle.std.specs.Prelude.{ℕ, ◌≡◌, ◌+◌, ◌*◌, ◌<◌, ◌≤◌, Bool, true, false, List, [], length, None, Some, Result, Ok, Err}
+use Rattle.std.specs.Prelude.{ℕ, ◌≡◌, ◌+◌, ◌*◌, ◌<◌, ◌≤◌, Bool, true, false, List, [], length, Option, None, Some, Result, Ok, Err}
 use Rattle.cckd_shelf.specs.declared.fault.Faults.{Faults}
 use Rattle.cckd_shelf.specs.declared.fault.Kind.TheVariants.{Reads, Syncs}
 use Rattle.cckd_shelf.specs.Faults.{Raises}
 use Rattle.cckd_shelf.specs.World.{after_sync}
 use Rattle.cckd_shelf.specs.Seen.{Seen, Stays, Makes}
 use Rattle.cckd_base.specs.declared.geometry.Layout.{Layout}
+use Rattle.cckd_base.specs.declared.fault.HeaderFault.{HeaderFault}
 use Rattle.cckd_base.specs.declared.open_fault.OpenFault.{OpenFault}
 use Rattle.cckd_base.specs.declared.open_fault.OpenFault.TheVariants as open_fault
+use Rattle.cckd_base.specs.declared.space.Extent.{Extent}
 use Rattle.cckd_base.specs.Geometry.{track_count}
 use Rattle.cckd_base.specs.Header.{headers_of, header_fault, layout_of}
 use Rattle.cckd_base.specs.Misfit.{entry_misfit}
-use Rattle.cckd_base.specs.Survey.{header_space, misfits, used_spaces}
-use Rattle.cckd_base.specs.Image.{IsSound}
+use Rattle.cckd_base.specs.Survey.{header_space, misfits, used_spaces, HasNoMisfit}
+use Rattle.cckd_base.specs.Image.{IsHeaded, IsSound}
 use Rattle.cckd_image.specs.declared.header.ImageHeader.{ImageHeader}
 use Rattle.cckd_image.specs.declared.roles.Roles.{Roles}
 use Rattle.cckd_image.specs.Image.{identifiers_of, header_of}
@@ -73,23 +75,55 @@ pub record IsOf (roles : Roles) (file : List ℕ) (s : LayerState) : Type 0 wher
   pub pieces : s.plan.pieces ≡ pieces_of 0 (used_spaces s.tables.layout file) (length file)
   pub size : s.plan.size ≡ length file
 
--- why a layer isn't mounted
-abbrev pub IsOpenCause : Roles → ℕ → Seen → OpenFault → Type 0
-IsOpenCause roles slot old (open_fault.Header at why) =
+-- the headers of a file in roles, of which the layer's headers and layout are made, and its length
+pub record HasHeaders (roles : Roles) (header : ImageHeader) (l : Layout) (len : ℕ) (file : List ℕ) : Type 0 where
+  pub headed : IsHeaded (identifiers_of roles) l file
+  pub read : header ≡ header_of (headers_of file)
+  pub long : len ≡ length file
+
+-- the spaces in use of a file without a misfit
+pub record HasSpaces (l : Layout) (spaces : List Extent) (file : List ℕ) : Type 0 where
+  pub clean : HasNoMisfit l file
+  pub used : spaces ≡ used_spaces l file
+
+-- the headers of the slot's file are refused by their first fault
+abbrev pub IsHeaderRefusal : ℕ → Option HeaderFault → OpenFault → Type 0
+IsHeaderRefusal slot found (open_fault.Header at why) = (at ≡ slot) × (found ≡ Some why)
+IsHeaderRefusal slot found _ = ⊥
+
+-- why the tables of a file give no spaces
+abbrev pub IsSurveyCause : ℕ → Layout → Seen → OpenFault → Type 0
+IsSurveyCause slot l old (open_fault.Scan at why) = (at ≡ slot) × OfFile slot (λ file. first_misfit (misfits l file) ≡ Some why) old
+IsSurveyCause slot l old open_fault.ReadFault = Unit {0}
+IsSurveyCause slot l old open_fault.Memory = Unit {0}
+IsSurveyCause slot l old _ = ⊥
+
+-- why the file of a slot is none of a layer: the first fault of its headers, or, where they have none, its first misfit
+abbrev pub IsFileCause : Roles → ℕ → Seen → OpenFault → Type 0
+IsFileCause roles slot old (open_fault.Header at why) =
     (at ≡ slot) × OfFile slot (λ file. header_fault (identifiers_of roles) (headers_of file) (length file) ≡ Some why) old
-IsOpenCause roles slot old (open_fault.Scan at why) =
+IsFileCause roles slot old (open_fault.Scan at why) =
     (at ≡ slot) × OfFile slot (λ file. (header_fault (identifiers_of roles) (headers_of file) (length file) ≡ None)
     × (first_misfit (misfits (layout_of (headers_of file)) file) ≡ Some why)) old
-IsOpenCause roles slot old open_fault.ReadFault = Unit {0}
+IsFileCause roles slot old open_fault.ReadFault = Unit {0}
+IsFileCause roles slot old open_fault.Memory = Unit {0}
+IsFileCause roles slot old _ = ⊥
+
+-- why a layer isn't mounted: the same, or the sync that comes first failed
+abbrev pub IsOpenCause : Roles → ℕ → Seen → OpenFault → Type 0
 IsOpenCause roles slot old open_fault.SyncFault = Unit {0}
-IsOpenCause roles slot old open_fault.Memory = Unit {0}
-IsOpenCause roles slot old _ = ⊥
+IsOpenCause roles slot old why = IsFileCause roles slot old why
 
 -- a fault of reading or of syncing raised its count and no other, and all else left the counts
 abbrev pub CountsOpen : {A : Type 0} → Result A OpenFault → Faults → Faults → Type 0
 CountsOpen (Err open_fault.ReadFault) old new = Raises Reads old new
 CountsOpen (Err open_fault.SyncFault) old new = Raises Syncs old new
 CountsOpen _ old new = new ≡ old
+
+-- nothing was changed, and only such a fault was counted
+pub record OnlyLooks {A : Type 0} (result : Result A OpenFault) (old new : Seen) : Type 0 where
+  pub kept : Stays old new
+  pub counts : CountsOpen result old.faults new.faults
 
 -- the slot was synced and nothing else was done; a sync that failed did nothing
 abbrev pub OnlySyncs : {A : Type 0} → ℕ → Result A OpenFault → Seen → Seen → Type 0

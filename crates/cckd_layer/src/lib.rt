@@ -2,6 +2,8 @@
 #![tactic(auto)]
 
 mod held;
+mod mounting;
+mod laws;
 mod reading;
 
 pub use cckd_base::Layout;
@@ -9,5 +11,3 @@ pub use cckd_shelf::Slot;
 pub use cckd_space::Space;
 pub use cckd_tables::{StagedEntry, StagedWord};
 pub use held::Held;
-
-mod laws;
