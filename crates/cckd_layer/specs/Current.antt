@@ -1,5 +1,5 @@
 -- What the file of a layer, as it is now, and the layer's pieces have to do with each other.
-use Rattle.std.specs.Prelude.{ℕ, ◌≡◌, ◌⊎◌, ◌+◌, ◌/◌, ◌%◌, ◌<◌, ◌≤◌, max, true, List, [], ◌∷◌, length, Some, None}
+use Rattle.std.specs.Prelude.{ℕ, ◌≡◌, ◌⊎◌, ◌+◌, ◌/◌, ◌%◌, ◌<◌, ◌≤◌, true, List, [], ◌∷◌, length, Some, None}
 use Rattle.cckd_base.specs.declared.geometry.Layout.{Layout}
 use Rattle.cckd_base.specs.declared.entry.L2Entry.{L2Entry}
 use Rattle.cckd_base.specs.declared.space.Extent.{Extent}
@@ -12,7 +12,7 @@ use Rattle.cckd_base.specs.Image.{IsPlace}
 use Rattle.cckd_space.specs.declared.piece.Kind.{Kind}
 use Rattle.cckd_space.specs.declared.piece.Kind.TheVariants.{Used, Leaving, Reserved}
 use Rattle.cckd_space.specs.declared.piece.Piece.{Piece}
-use Rattle.cckd_space.specs.Pieces.{Has, used_end, piece_end, used_piece, reserved_piece, IsLaid}
+use Rattle.cckd_space.specs.Pieces.{Has, piece_end, used_piece, reserved_piece, IsLaid}
 use Rattle.cckd_space.specs.Plan.{Plan}
 use Rattle.cckd_tables.specs.Staging.{Stages, IsStaged, IsMoved, entry_for, place_for}
 use Rattle.cckd_layer.specs.Sits.{held_kind}
@@ -105,12 +105,12 @@ pub record Accounts (IsUsed IsLeft IsKept : Extent → Type 0) (ps : List Piece)
   pub reserved : AreExactly Reserved placed_piece IsKept ps
   pub differ : (a b : Extent) → IsKept a → IsKept b → a.pos ≡ b.pos → a ≡ b
 
--- The pieces cover the file, and no Free piece that ends them passes the file's end. What a file needs that a stop
--- leaves ends inside the file.
+-- The pieces cover the file, and end with it or with a Reserved one. What a file needs that a stop leaves ends inside the
+-- file.
 pub record Spans (plan : Plan) (file : List ℕ) : Type 0 where
   pub laid : IsLaid 0 plan.pieces plan.size
   pub covers : length file ≤ plan.size
-  pub ends : plan.size ≤ max (length file) (used_end plan.pieces)
+  pub ends : (plan.size ≤ length file) ⊎ ((pos : ℕ) × (n : ℕ) × Has (reserved_piece pos n) plan.pieces × (pos + n ≡ plan.size))
   pub inside : (p : Piece) → Has p plan.pieces → held_kind p.kind ≡ true → piece_end p ≤ length file
   pub short : plan.size ≤ format_limit
   pub limited : plan.limit ≤ format_limit

@@ -5,3 +5,5 @@ pub use cckd_base::Layout;
 pub use cckd_shelf::Slot;
 pub use cckd_space::Space;
 pub use cckd_tables::{StagedEntry, StagedWord};
+
+mod laws;
