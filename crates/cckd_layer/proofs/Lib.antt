@@ -1,2 +1,4 @@
 pub mod AccountLemmas
 pub mod SpanLemmas
+pub mod HeadLemmas
+pub mod FillLemmas
