@@ -1,106 +1,87 @@
--- The headers of a file, as they are read to a buffer of zeros.
-use Rattle.std.proofs.Common.{◌≡◌, ⊎_elim, ℕ, zero, suc, ◌+◌, ◌-◌, ◌<◌, ◌≤◌, min, List, [], ◌∷◌, ◌++◌, length, take, drop, replicate, Option, Some, None, Result, Ok, Err, IfOk, OnOk, IfErr, refl, sym, ◌∙◌, ap, subst, arith, append-nil}
-use Rattle.std.proofs.lemmas.Bool.{cases_lt}
-use Rattle.std.proofs.lemmas.List.{take-append-le, take-replicate, drop-replicate, length-replicate}
-use Rattle.std.proofs.Math.ListN.{drop_of_length-le}
-use Rattle.std.proofs.Math.Seq.{take-append-add, take-length}
-use Rattle.cckd_shelf.specs.declared.fault.Faults.{Faults}
-use Rattle.cckd_shelf.specs.Seen.{Seen, Stays}
-use Rattle.cckd_shelf.specs.World.{file_of}
+-- The headers of a file through writes behind them, and through a write of the second one.
+use Rattle.std.proofs.Common.{◌≡◌, ◌⊎◌, ⊎_elim, ℕ, ◌+◌, ◌-◌, ◌*◌, ◌/◌, ◌%◌, ◌<◌, ◌≤◌, nat_lt, ◌||◌, Bool, true, false, List, [], ◌∷◌, ◌++◌, length, take, drop, replicate, get_or, Option, None, Some, refl, sym, ◌∙◌, ap, subst, inl, inr, arith}
+use Rattle.std.proofs.lemmas.Bool.{cases_lt, or_parts, ltb-false, le-ltb}
+use Rattle.std.proofs.lemmas.List.{ext_get_or, get_or-take, get_or-drop, length-take, length-append, take-append-le, get_or_append_left, get_or-append-add}
+use Rattle.cckd_shelf.specs.Files.{overlaid}
+use Rattle.cckd_shelf.proofs.OutcomeLemmas.{length_overlaid, overlaid_before, overlaid_within_range}
+use Rattle.cckd_base.specs.declared.geometry.Layout.{Layout}
 use Rattle.cckd_base.specs.declared.fault.HeaderFault.{HeaderFault}
-use Rattle.cckd_base.specs.declared.open_fault.OpenFault.{OpenFault}
-use Rattle.cckd_base.specs.declared.open_fault.OpenFault.TheVariants as open_fault
-use Rattle.cckd_base.specs.Header.{headers_of, header_fault, layout_of}
-use Rattle.cckd_image.specs.declared.header.ImageHeader.{ImageHeader}
-use Rattle.cckd_image.specs.declared.roles.Roles.{Roles}
-use Rattle.cckd_image.specs.Image.{identifiers_of, header_of, decoded}
-use Rattle.cckd_layer.specs.declared.mounting.Found.{Found}
-use Rattle.cckd_layer.specs.Reads.{OfFile}
-use Rattle.cckd_layer.specs.Mounted.{HasHeaders, IsHeaderRefusal, IsFileCause, CountsOpen, OnlyLooks}
+use Rattle.cckd_base.specs.Geometry.{group_count, area_of, format_limit}
+use Rattle.cckd_base.specs.Header.{headers_of, layout_of, judged_in, header_cases, header_geometry, first_case, header_fault, is_outside}
+use Rattle.cckd_base.specs.Image.{IsHeaded}
+use Rattle.cckd_base.proofs.PlaceLemmas.{part_same}
+use Rattle.cckd_base.proofs.HeaderLemmas.{NoneStands, none_stands, headed_area, headed_short}
 
-both_parts : {a b c d : List ℕ} → a ≡ b → c ≡ d → a ++ c ≡ b ++ d
-both_parts e f = cc
+stands_none : (cs : List (Bool × HeaderFault)) → NoneStands cs → first_case cs ≡ None
+stands_none [] h = refl
+stands_none ((true, fault) ∷ cs) h = absurd (let e : true ≡ false = h.0 in cc)
+stands_none ((false, fault) ∷ cs) h = stands_none cs h.1
 
--- the front of a file, with zeros behind it where the file is short
-pub filled_up : (n : ℕ) (file into : List ℕ) (front : ℕ) → front ≡ min (length file) n → into ≡ take front (drop 0 file)
-    → into ++ drop front (replicate n 0) ≡ take n (file ++ replicate n 0)
-filled_up n file into front f read = ⊎_elim
-    (λ (less : length file < n).
-      let short : front ≡ length file = omega (arith, f, less) in
-      both_parts (read ∙ ap (λ (m : ℕ). take m file) short ∙ take-length file)
-          (ap (λ (m : ℕ). drop m (replicate n 0)) short ∙ drop-replicate (length file) n 0 ∙ sym (take-replicate (n - length file) n 0 (omega arith)))
-      ∙ sym (take-append-add file (replicate n 0) (n - length file))
-      ∙ ap (λ (m : ℕ). take m (file ++ replicate n 0)) (omega (arith, less)))
-    (λ (more : n ≤ length file).
-      let long : front ≡ n = omega (arith, f, more) in
-      both_parts (read ∙ ap (λ (m : ℕ). take m file) long)
-          (ap (λ (m : ℕ). drop m (replicate n 0)) long ∙ drop_of_length-le (replicate n 0) (omega (arith, length-replicate {A = ℕ} n 0)))
-      ∙ append-nil (take n file) ∙ sym (take-append-le n file (replicate n 0) more))
-    (cases_lt (length file) n)
+within_is : (low high n : ℕ) → low ≤ n → n ≤ high → is_outside low high n ≡ false
+within_is low high n a b = both (nat_lt n low) (nat_lt high n) (le-ltb n low a) (le-ltb high n b)
+  where
+    both : (x y : Bool) → x ≡ false → y ≡ false → (x || y) ≡ false
+    both true y e f = absurd cc
+    both false y e f = f
 
--- what was decoded is what the headers say, and they have no fault
-pub accepted : (o : Option HeaderFault) (h x : ImageHeader) → decoded o h ≡ Ok x → (o ≡ None) × (x ≡ h)
-accepted None h x e = (refl, let f : Ok h ≡ Ok x = e in cc)
-accepted (Some fault) h x e = absurd (cc e)
+-- headers without a fault have none in a file of another length that an image may have
+pub fault_none_at : (identifiers : List (List ℕ)) (headers : List ℕ) (len more : ℕ) → header_fault identifiers headers len ≡ None
+    → 1024 ≤ more → area_of (group_count (header_geometry headers)) ≤ more → more ≤ format_limit → header_fault identifiers headers more ≡ None
+unfolding header_fault
+fault_none_at identifiers headers len more e long area short =
+    let n = none_stands (header_cases identifiers (judged_in headers) len) e in
+    let file = or_parts (nat_lt len 1024) _ n.0 in
+    stands_none (header_cases identifiers (judged_in headers) more) (
+      either (nat_lt more 1024) _ (le-ltb more 1024 long) file.1,
+      (n.1.0, (n.1.1.0, (n.1.1.1.0, (n.1.1.1.1.0, (n.1.1.1.1.1.0,
+      (n.1.1.1.1.1.1.0, (n.1.1.1.1.1.1.1.0, (within_is (area_of (group_count (header_geometry headers))) format_limit more area short,
+      n.1.1.1.1.1.1.1.1.1))))))))
+    )
+  where
+    either : (x y : Bool) → x ≡ false → y ≡ false → (x || y) ≡ false
+    either true y e f = absurd cc
+    either false y e f = f
 
--- what was refused has this fault
-pub rejected : (o : Option HeaderFault) (h : ImageHeader) (fault : HeaderFault) → decoded o h ≡ Err fault → o ≡ Some fault
-rejected None h fault e = absurd (cc e)
-rejected (Some other) h fault e = cc e
+pub headers_front : (file : List ℕ) → 1024 ≤ length file → headers_of file ≡ take 1024 file
+headers_front file long = take-append-le 1024 file (replicate 1024 0) long
 
--- headers that were read of a file, and what they say
-pub found_headed : (roles : Roles) (headers file : List ℕ) (len : ℕ) (r : Result Found OpenFault) → headers ≡ headers_of file → len ≡ length file
-    → OnOk r (header_fault (identifiers_of roles) headers len ≡ None)
-    → IfOk r (λ found. found.header ≡ header_of headers) → IfOk r (λ found. found.layout ≡ layout_of headers) → IfOk r (λ found. found.len ≡ len)
-    → IfOk r (λ found. HasHeaders roles found.header found.layout found.len file)
-found_headed roles headers file len (Err why) read long sound header says cut = tt
-found_headed roles headers file len (Ok found) read long sound header says cut = record {
-  headed = record {
-    sound = subst (λ (h : List ℕ). header_fault (identifiers_of roles) h (length file) ≡ None) read
-        (subst (λ (n : ℕ). header_fault (identifiers_of roles) headers n ≡ None) long sound);
-    says = says ∙ ap layout_of read;
-  };
-  read = header ∙ ap header_of read;
-  long = cut ∙ long;
-}
+-- writes behind the headers keep them
+pub headers_kept : (was file : List ℕ) → 1024 ≤ length was → length was ≤ length file → ((i : ℕ) → i < 1024 → get_or file i 0 ≡ get_or was i 0) → headers_of file ≡ headers_of was
+headers_kept was file long longer same =
+    headers_front file (omega (arith, long, longer)) ∙ (part_same was file 0 1024 long longer (λ i a b. same i b) ∙ sym (headers_front was long))
 
-refused_by : (roles : Roles) (slot : ℕ) (old : Seen) (found : Option HeaderFault) (why : OpenFault)
-    → OfFile slot (λ file. found ≡ header_fault (identifiers_of roles) (headers_of file) (length file)) old
-    → IsHeaderRefusal slot found why → IsFileCause roles slot old why
-refused_by roles slot old found (open_fault.Header at why) same h = (h.0, λ told sure. sym (same told sure) ∙ h.1)
-refused_by roles slot old found (open_fault.Scan at why) same h = absurd h
-refused_by roles slot old found (open_fault.Gap at) same h = absurd h
-refused_by roles slot old found (open_fault.Mismatch at base other) same h = absurd h
-refused_by roles slot old found open_fault.ReadFault same h = absurd h
-refused_by roles slot old found open_fault.WriteFault same h = absurd h
-refused_by roles slot old found open_fault.SyncFault same h = absurd h
-refused_by roles slot old found open_fault.Memory same h = absurd h
+pub headed_kept : (identifiers : List (List ℕ)) (l : Layout) (was file : List ℕ) → headers_of file ≡ headers_of was → length was ≤ length file → length file ≤ format_limit
+    → IsHeaded identifiers l was → IsHeaded identifiers l file
+headed_kept identifiers l was file same longer short h =
+    let area = headed_area identifiers l was h in
+    let groups : area_of l.groups ≡ area_of (group_count (header_geometry (headers_of was))) = ap (λ (x : Layout). area_of x.groups) h.says in
+    record {
+      sound = subst (λ (hs : List ℕ). header_fault identifiers hs (length file) ≡ None) (sym same)
+          (fault_none_at identifiers (headers_of was) (length was) (length file) h.sound (omega (arith, area, longer)) (omega (arith, area, groups, longer)) short);
+      says = h.says ∙ sym (ap layout_of same);
+    }
 
--- and whose fault they have
-pub found_refused : (roles : Roles) (slot : ℕ) (old : Seen) (headers : List ℕ) (len : ℕ) (r : Result Found OpenFault)
-    → OfFile slot (λ file. headers ≡ headers_of file) old → OfFile slot (λ file. len ≡ length file) old
-    → IfErr r (IsHeaderRefusal slot (header_fault (identifiers_of roles) headers len)) → IfErr r (IsFileCause roles slot old)
-found_refused roles slot old headers len (Ok found) read long h = tt
-found_refused roles slot old headers len (Err why) read long h =
-    refused_by roles slot old (header_fault (identifiers_of roles) headers len) why
-    (λ told sure.
-      ap (λ (s : List ℕ). header_fault (identifiers_of roles) s len) (read told sure)
-      ∙ ap (λ (n : ℕ). header_fault (identifiers_of roles) (headers_of (file_of old.world slot)) n) (long told sure))
-    h
-
-refusal_counts : (slot : ℕ) (found : Option HeaderFault) (why : OpenFault) (old new : Faults) → IsHeaderRefusal slot found why → new ≡ old
-    → CountsOpen {A = Found} (Err why) old new
-refusal_counts slot found (open_fault.Header at why) old new h e = e
-refusal_counts slot found (open_fault.Scan at why) old new h e = absurd h
-refusal_counts slot found (open_fault.Gap at) old new h e = absurd h
-refusal_counts slot found (open_fault.Mismatch at base other) old new h e = absurd h
-refusal_counts slot found open_fault.ReadFault old new h e = absurd h
-refusal_counts slot found open_fault.WriteFault old new h e = absurd h
-refusal_counts slot found open_fault.SyncFault old new h e = absurd h
-refusal_counts slot found open_fault.Memory old new h e = absurd h
-
--- a refusal of what was read leaves the counts as the reads left them
-pub found_looks : (slot : ℕ) (found : Option HeaderFault) (r : Result Found OpenFault) (old new : Seen) → Stays old new → new.faults ≡ old.faults
-    → IfErr r (IsHeaderRefusal slot found) → OnlyLooks r old new
-found_looks slot found (Ok x) old new kept e h = record { kept = kept; counts = e }
-found_looks slot found (Err why) old new kept e h = record { kept = kept; counts = refusal_counts slot found why old.faults new.faults h e }
+-- the headers once the second one is written
+pub headers_written : (bytes was : List ℕ) → 1024 ≤ length was → length bytes ≡ 512 → headers_of (overlaid was 512 bytes) ≡ take 512 (headers_of was) ++ bytes
+headers_written bytes was long half =
+    let new = overlaid was 512 bytes in
+    let size : length new ≡ length was = omega (arith, length_overlaid was 512 bytes, half, long) in
+    let front = headers_front new (omega (arith, size, long)) in
+    let old = headers_front was long in
+    let a : length (take 1024 new) ≡ 1024 = omega (arith, length-take 1024 new, size, long) in
+    let f : length (take 512 (take 1024 was)) ≡ 512 = omega (arith, length-take 512 (take 1024 was), length-take 1024 was, long) in
+    let b : length (take 512 (take 1024 was) ++ bytes) ≡ 1024 = omega (arith, length-append (take 512 (take 1024 was)) bytes, f, half) in
+    front ∙ (ext_get_or 0 (take 1024 new) (take 512 (take 1024 was) ++ bytes) (a ∙ sym b) (λ i low. elim (cases_lt i 512) [
+      | inl lt ↦ get_or-take 1024 new i 0 (omega (arith, lt)) ∙ (overlaid_before was 512 bytes i (omega (arith, lt, long)) lt
+          ∙ sym (get_or_append_left (take 512 (take 1024 was)) bytes 0 i (omega (arith, lt, f)) ∙ (get_or-take 512 (take 1024 was) i 0 lt ∙ get_or-take 1024 was i 0 (omega (arith, lt)))))
+      | inr ge ↦
+          let k = i - 512 in
+          let is : 512 + k ≡ i = omega (arith, ge) in
+          let is_len : length (take 512 (take 1024 was)) + k ≡ i = omega (arith, ge, f) in
+          let part : take 512 (drop 512 new) ≡ bytes = ap (λ n. take n (drop 512 new)) (sym half) ∙ overlaid_within_range was 512 bytes in
+          get_or-take 1024 new i 0 (omega (arith, low, a))
+          ∙ (ap (λ n. get_or new n 0) (sym is)
+          ∙ (sym (get_or-take 512 (drop 512 new) k 0 (omega (arith, low, a, ge)) ∙ get_or-drop 512 new k 0)
+          ∙ (ap (λ bs. get_or bs k 0) part
+          ∙ (sym (get_or-append-add (take 512 (take 1024 was)) bytes k 0) ∙ ap (λ n. get_or (take 512 (take 1024 was) ++ bytes) n 0) is_len))))
+    ]) ∙ ap (λ (hs : List ℕ). take 512 hs ++ bytes) (sym old))

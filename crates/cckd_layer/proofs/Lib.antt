@@ -1,5 +1,9 @@
+pub mod AccountLemmas
+pub mod SpanLemmas
+pub mod HeadLemmas
+pub mod FillLemmas
 pub mod ReadLemmas
 pub mod PieceLemmas
 pub mod MountLemmas
 pub mod RoleLemmas
-pub mod HeadLemmas
+pub mod FoundLemmas

@@ -28,7 +28,6 @@ use Rattle.cckd_layer.specs.Sits.{IsWhole, IsHeld, Rests, Sits, identifiers_for}
 use Rattle.cckd_layer.specs.Current.{stored_space, IsTableOf, IsTrackOf, IsInUse, IsReplaced, IsNew, IsPlaced, AreExactly, leaving_piece, placed_piece, Spans, Current}
 use Rattle.cckd_layer.specs.Stands.{LayerView, Stands, nothing_staged}
 use Rattle.cckd_layer.specs.Mounted.{ReadsFrom}
-use Rattle.std.specs.Option.{is_some}
 use Rattle.cckd_layer.proofs.PieceLemmas.{used_there, used_from, none_leaving, none_reserved, ends_within}
 
 -- what was found of a file: its headers say the layout, its tables have no misfit, and each of its spaces ends inside it
@@ -92,9 +91,9 @@ module _ (l : Layout) (file : List ℕ) (found : IsFound l file) where
   not_replaced e (inl g) = none_moved g.0 g.1
   not_replaced e (inr t) = none_staged t.0 t.1
 
-  not_placed : (e : Extent) → IsPlaced l nothing_staged [] file e → ⊥
-  not_placed e (inl (inl g)) = none_moved g.0 g.1.moved
-  not_placed e (inl (inr t)) = none_staged t.0 t.1.staged
+  not_placed : (e : Extent) → IsPlaced nothing_staged [] e → ⊥
+  not_placed e (inl (inl g)) = absurd (let named = g.1.named in cc)
+  not_placed e (inl (inr t)) = absurd (let named = t.1.named in cc)
   not_placed e (inr none) = none
 
   -- and it is the file of a layer that has nothing staged and these pieces
@@ -106,29 +105,31 @@ module _ (l : Layout) (file : List ℕ) (found : IsFound l file) where
         spans = record {
           laid = laid;
           covers = omega arith;
-          ends = omega arith;
+          ends = inl (omega arith);
           inside = λ p there kind. ends_within p 0 (pieces_of 0 used (length file)) (length file) laid there;
           short = headed_short (identifiers_for l) l file found.headed;
           limited = short;
         };
-        used = record {
-          there = in_use_there;
-          named = λ p there kind.
-              let from = used_from p 0 used (length file) there kind in
-              (from.0, named_use from.0 (used_named l file found.clean from.0 from.1), from.2);
+        accounts = record {
+          used = record {
+            there = in_use_there;
+            named = λ p there kind.
+                let from = used_from p 0 used (length file) there kind in
+                (from.0, named_use from.0 (used_named l file found.clean from.0 from.1), from.2);
+          };
+          leaving = record {
+            there = λ e r. absurd (not_replaced e r);
+            named = λ p there kind. absurd (none_leaving p used (length file) there kind);
+          };
+          reserved = record {
+            there = λ e r. absurd (not_placed e r);
+            named = λ p there kind. absurd (none_reserved p used (length file) there kind);
+          };
+          differ = λ a b x y e. absurd (not_placed a x);
         };
-        leaving = record {
-          there = λ e r. absurd (not_replaced e r);
-          named = λ p there kind. absurd (none_leaving p used (length file) there kind);
-        };
-        reserved = record {
-          there = λ e r. absurd (not_placed e r);
-          named = λ p there kind. absurd (none_reserved p used (length file) there kind);
-        };
-        differ = λ a b x y e. absurd (not_placed a x);
         claims_are = tt;
-        entries = λ t s. absurd (none_staged t s);
-        words = λ g m. absurd (none_moved g m);
+        entries = λ t e named. absurd (cc named);
+        words = λ g pos named. absurd (cc named);
       }
 
 -- It stands, where whatever a stop leaves is the file now.
@@ -158,21 +159,21 @@ sound_reads tables file layout clean none are = record {
 }
 
 entry_can : (l : Layout) (s : Stages) (file : List ℕ) (t : ℕ) (o : Option L2Entry) → entry_for t s.entries ≡ o
-    → (IsStaged t s → entry_misfit l (length file) t (new_entry l s file t) ≡ None) → entry_misfit l (length file) t (entry_at l file t) ≡ None
+    → ((e : L2Entry) → entry_for t s.entries ≡ Some e → entry_misfit l (length file) t e ≡ None) → entry_misfit l (length file) t (entry_at l file t) ≡ None
     → entry_misfit l (length file) t (new_entry l s file t) ≡ None
 entry_can l s file t None e staged old = subst (λ (o : Option L2Entry). entry_misfit l (length file) t (unwrap_or o (entry_at l file t)) ≡ None) (sym e) old
-entry_can l s file t (Some entry) e staged old = staged (ap is_some e)
+entry_can l s file t (Some entry) e staged old = subst (λ (o : Option L2Entry). entry_misfit l (length file) t (unwrap_or o (entry_at l file t)) ≡ None) (sym e) (staged entry e)
 
 -- and so can the file of a layer that stands
 pub stands_reads : (v : LayerView) (tables : TableView) (slot : ℕ) (w : World) → tables.layout ≡ v.layout → tables.stages ≡ v.stages → Stands v slot w
     → AreOf tables (file_of w slot) → ReadsFrom tables (file_of w slot)
-stands_reads v tables slot w layout stages stands are =
+stands_reads v tables slot w same stages stands are =
     let file = file_of w slot in
     let now : Sits v.layout v.plan.pieces file = stands.each file (now_is_outcome w.events slot) in
     let each : (t : ℕ) → t < track_count v.layout.geo → entry_misfit v.layout (length file) t (new_entry v.layout v.stages file t) ≡ None =
-        λ t low. entry_can v.layout v.stages file t (entry_for t v.stages.entries) refl (λ s. (stands.now.entries t s).fits) (now.whole.image.entries t low) in
+        λ t low. entry_can v.layout v.stages file t (entry_for t v.stages.entries) refl (λ e named. (stands.now.entries t e named).fits) (now.whole.image.entries t low) in
     record {
       are = are;
-      entries = subst (λ (l : Layout). (t : ℕ) → t < track_count l.geo → entry_misfit l (length file) t (new_entry l tables.stages file t) ≡ None) (sym layout)
+      entries = subst (λ (l : Layout). (t : ℕ) → t < track_count l.geo → entry_misfit l (length file) t (new_entry l tables.stages file t) ≡ None) (sym same)
           (subst (λ (s : Stages). (t : ℕ) → t < track_count v.layout.geo → entry_misfit v.layout (length file) t (new_entry v.layout s file t) ≡ None) (sym stages) each);
     }

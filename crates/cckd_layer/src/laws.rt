@@ -1,7 +1,9 @@
-ghost use Rattle.std.specs.Prelude.{◌≡◌, ◌≤◌, length};
-ghost use Rattle.cckd_layer.specs.Mounted.{CanRead, IsFresh, IsOf, IsOpenCause, CountsOpen, OnlySyncs};
-fn law(x: u8) -> u8
-    ensures { result ≡ x }
+//! Laws.
+ghost use Rattle.std.specs.Prelude.{◌≡◌};
+
+/// For the check.
+pub fn dummy() -> u8
+    ensures { result ≡ 0 }
 {
-    x
+    0
 }

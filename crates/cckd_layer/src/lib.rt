@@ -2,8 +2,9 @@
 #![tactic(auto)]
 
 mod held;
-mod mounting;
 mod laws;
+mod mount_laws;
+mod mounting;
 mod reading;
 
 pub use cckd_base::Layout;

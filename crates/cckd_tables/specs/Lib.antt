@@ -1,3 +1,5 @@
+pub mod Blend
+pub mod Commit
 pub mod Device
 pub mod Inside
 pub mod Kept

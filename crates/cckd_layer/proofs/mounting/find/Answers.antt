@@ -2,7 +2,7 @@ use Rattle.cckd_base.specs.Header.{header_fault}
 use Rattle.cckd_image.specs.Image.{identifiers_of}
 use Rattle.cckd_shelf.specs.World.{file_of}
 use Rattle.cckd_shelf.specs.Seen.{seen}
-use Rattle.cckd_layer.proofs.HeadLemmas.{found_headed, found_refused, found_looks}
+use Rattle.cckd_layer.proofs.FoundLemmas.{found_headed, found_refused, found_looks}
 use Rattle.cckd_layer.proofs.mounting.find.Goals as goal
 
 pub returns-in-Ok-clause-headed : goal.returns-in-Ok-clause-headed

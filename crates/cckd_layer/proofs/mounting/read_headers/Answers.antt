@@ -1,7 +1,7 @@
 use Rattle.std.proofs.Common.{◌≡◌, ℕ, ◌++◌, length, min, take, drop, replicate, List, sym, subst, ◌∙◌, ap, arith}
 use Rattle.std.proofs.lemmas.List.{length-take-le, length-replicate}
 use Rattle.cckd_shelf.specs.World.{World, IsSure, file_of}
-use Rattle.cckd_layer.proofs.HeadLemmas.{filled_up}
+use Rattle.cckd_layer.proofs.FoundLemmas.{filled_up}
 use Rattle.cckd_layer.proofs.mounting.read_headers.Goals as goal
 
 pub returns-clause-headers : goal.returns-clause-headers

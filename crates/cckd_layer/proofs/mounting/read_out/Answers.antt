@@ -3,7 +3,7 @@ use Rattle.cckd_base.specs.declared.geometry.Layout.{Layout}
 use Rattle.cckd_base.specs.Geometry.{IsLayout}
 use Rattle.cckd_base.specs.Header.{header_fault}
 use Rattle.cckd_image.specs.Image.{identifiers_of, header_of}
-use Rattle.cckd_layer.proofs.HeadLemmas.{accepted, rejected}
+use Rattle.cckd_layer.proofs.FoundLemmas.{accepted, rejected}
 use Rattle.cckd_layer.proofs.mounting.read_out.Goals as goal
 
 pub returns-in-Ok-clause-layout : goal.returns-in-Ok-clause-layout
