@@ -8,3 +8,8 @@ pub mod ItemLemmas
 pub mod FormedLemmas
 pub mod FileLemmas
 pub mod SurveyLemmas
+pub mod PlacedLemmas
+pub mod StageLemmas
+pub mod NumberedLemmas
+pub mod CacheLemmas
+pub mod TablesLemmas

@@ -1,8 +1,11 @@
 pub mod Blend
+pub mod Cached
 pub mod Commit
 pub mod Device
 pub mod Inside
 pub mod Kept
+pub mod Looking
 pub mod Scan
+pub mod Stages
 pub mod Staging
 pub mod Tables

@@ -1,13 +1,16 @@
 //! The two-level tables of one image: the survey of all that they name.
 #![tactic(auto)]
 
+mod cache;
 mod device;
 mod item;
 mod kept;
 mod progress;
 mod read;
 mod staged;
+mod stages;
 mod surveyed;
+mod tables;
 #[cfg(test)]
 mod tests;
 
@@ -15,3 +18,4 @@ pub use cckd_base::{Extent, Layout, Misfit, Owner, ScanFault};
 pub use device::Device;
 pub use staged::{StagedEntry, StagedWord};
 pub use surveyed::{SurveyFault, Surveyed, scan, survey};
+pub use tables::Tables;
