@@ -1,9 +1,9 @@
 -- The cached tables as entries of a list by recency.
-use Rattle.std.proofs.Common.{◌≡◌, ◌≢◌, ◌⊎◌, inl, inr, ℕ, zero, suc, ◌+◌, ◌-◌, ◌<◌, ◌≤◌, ◌==◌, true, false, cond, List, [], ◌∷◌, ◌++◌, length, map, take, Option, Some, None, IsNone, IsSome, refl, sym, ◌∙◌, ap, subst, arith}
+use Rattle.std.proofs.Common.{◌≡◌, ◌≢◌, ◌⊎◌, inl, inr, ℕ, zero, suc, ◌+◌, ◌-◌, ◌<◌, ◌≤◌, ◌==◌, true, false, cond, List, [], ◌∷◌, ◌++◌, length, map, take, Option, Some, None, IsNone, IsSome, IfSome, refl, sym, ◌∙◌, ap, subst, arith}
 use Rattle.std.specs.List.{AllByRecursion}
 use Rattle.std.specs.Option.{option_map, is_some}
 use Rattle.std.proofs.lemmas.Bool.Decides.{eqb_tells}
-use Rattle.cckd_frames.specs.Frames.{Entry, Kept, IsKept, entry_of, entry_in, frame_of, without, promoted, holding, with_entries}
+use Rattle.cckd_frames.specs.Frames.{Entry, Kept, IsKept, entry_of, entry_in, frame_of, without, IsUsed, promoted, holding, with_entries}
 use Rattle.cckd_frames.proofs.CallerLemmas.{key_of_entry}
 use Rattle.cckd_tables.specs.Tables.{CachedTable}
 use Rattle.cckd_tables.specs.Cached.{table_of, IsCached, tables_but, used_first, UsesTable, KeepsCached, tables_in, IsCache}
@@ -205,3 +205,11 @@ pub cached_tells : {F : Type 0} (number : F → ℕ) (r : Option F) (k : Kept) (
     → (is_some r ≡ true → IsCached g (tables_in k.entries)) × (IsCached g (tables_in k.entries) → is_some r ≡ true)
 cached_tells number None k g found = ((λ (e : false ≡ true). absurd cc), λ some. absurd (let h = subst (λ (o : Option (List ℕ)). IsSome o) (is_absent k g found) some in cc))
 cached_tells number (Some f) k g found = ((λ e. is_cached k g (number f) found), λ some. refl)
+
+-- the bytes of a frame in use are a whole table
+pub frame_whole : (f : ℕ) (es : List Entry) (bytes : List ℕ) → IfSome (entry_in f es) (λ e. bytes ≡ e.body) → IsUsed f es → AllByRecursion (λ e. length e.body ≡ 2048) es → length bytes ≡ 2048
+frame_whole f [] bytes is used all = absurd (cc used)
+frame_whole f (e ∷ es) bytes is used all = elim (eqb_tells e.frame f) [
+  | inl t ↦ (let h = rw t.0 at is in ap (λ (l : List ℕ). length l) h ∙ all.0)
+  | inr t ↦ frame_whole f es bytes (let h = rw t.0 at is in h) (let h = rw t.0 at used in h) all.1
+]

@@ -13,3 +13,4 @@ pub mod StageLemmas
 pub mod NumberedLemmas
 pub mod CacheLemmas
 pub mod TablesLemmas
+pub mod LookLemmas

@@ -1,5 +1,5 @@
 -- What holds of each `Tables`, and what a look-up answers.
-use Rattle.std.specs.Prelude.{ℕ, ◌≡◌, ◌⊎◌, ◌+◌, ◌*◌, ◌<◌, ◌≤◌, ◌/◌, ◌%◌, List, [], length, replicate, slice_index, unwrap_or}
+use Rattle.std.specs.Prelude.{ℕ, ◌≡◌, ◌⊎◌, ◌+◌, ◌*◌, ◌<◌, ◌≤◌, ◌/◌, ◌%◌, List, [], length, replicate, slice_index, IsNone, unwrap_or}
 use Rattle.std.specs.List.{AllByRecursion}
 use Rattle.cckd_base.specs.declared.geometry.Layout.{Layout}
 use Rattle.cckd_base.specs.declared.entry.L2Entry.{L2Entry}
@@ -7,7 +7,7 @@ use Rattle.cckd_base.specs.Geometry.{track_count, IsLayout}
 use Rattle.cckd_base.specs.Image.{IsPlace}
 use Rattle.cckd_shelf.specs.Seen.{Seen, Tells}
 use Rattle.cckd_shelf.specs.World.{IsSure, file_of}
-use Rattle.cckd_tables.specs.Staging.{Stages, IsStaged, IsMoved, place_for, new_entry}
+use Rattle.cckd_tables.specs.Staging.{Stages, IsStaged, IsMoved, entry_for, place_for, new_entry}
 use Rattle.cckd_tables.specs.Stages.{AreStaged, none_staged}
 use Rattle.cckd_tables.specs.Tables.{CachedTable, TableView, HasWords, AreOf}
 
@@ -44,14 +44,22 @@ word_of v g = unwrap_or (place_for g v.stages.words) (slice_index v.words g)
 abbrev pub HasAlignedTable : TableView → ℕ → Type 0
 HasAlignedTable v g = IsMoved g v.stages ⊎ (IsPlace (slice_index v.words g) × (slice_index v.words g % 8 ≡ 0))
 
--- the words are those of the slot's file, as far as it is told, and all else but the cached tables, of which there are none, is as it was
+-- the level-one words of the slot's file are these, as far as it is told
+abbrev pub HasWordsOf : Layout → List ℕ → ℕ → Seen → Type 0
+HasWordsOf l words slot s = Tells s → IsSure s.world → HasWords l words (file_of s.world slot)
+
+-- the words are those of the slot's file, no table is cached, and all else is as it was
 pub record LoadsWords (slot : ℕ) (s : Seen) (old new : TableView) : Type 0 where
-  pub words : Tells s → IsSure s.world → HasWords new.layout new.words (file_of s.world slot)
+  pub words : HasWordsOf old.layout new.words slot s
   pub rest : new ≡ record { layout = old.layout; words = new.words; stages = old.stages; cached = [] }
 
 -- no table is looked at for a track: its entry is staged, or the word of its group names none
 abbrev pub NeedsNoTable : ℕ → TableView → Type 0
 NeedsNoTable t v = IsStaged t v.stages ⊎ (IsPlace (slice_index v.words (t / 256)) → ⊥)
+
+-- one is
+abbrev pub NeedsTable : ℕ → TableView → Type 0
+NeedsTable t v = IsNone (entry_for t v.stages.entries) × IsPlace (slice_index v.words (t / 256))
 
 -- the words and the cached tables are those of the slot's file, as far as it is told
 abbrev pub IsOfSlot : TableView → ℕ → Seen → Type 0

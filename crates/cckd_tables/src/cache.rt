@@ -1,12 +1,14 @@
 //! The cached tables: a table as it stands in the file of a slot, read once.
-ghost use Rattle.std.specs.Prelude.{ℕ, ◌≡◌, ◌+◌, ◌*◌, ◌%◌, ◌<◌, ◌≤◌, length, IfOk, IfSome, IsOk, OnOk, OnErr, IsNone, option_map, unwrap_or, []};
+ghost use Rattle.std.specs.Prelude.{◌≡◌, ◌+◌, ◌*◌, ◌/◌, ◌%◌, ◌<◌, ◌≤◌, length, IfOk, IfSome, IsOk, OnOk, OnErr, IsNone, option_map, unwrap_or, []};
+ghost use Rattle.cckd_base.specs.Numbers.{bytes_at};
+ghost use Rattle.cckd_base.specs.Entry.{entry_of};
 ghost use Rattle.cckd_shelf.specs.Seen.{seen, HasBytes, IsPart, Called};
 ghost use Rattle.cckd_frames.specs.Frames.{entry_in, IsUsed};
 ghost use Rattle.cckd_tables.specs.Device.{OnlyLooks};
 ghost use Rattle.cckd_tables.specs.Cached.{IsCache, IsCached, UsesTable, table_of, tables_in};
 
 use crate::device::Device;
-use cckd_base::TABLE_LEN;
+use cckd_base::{GROUP_TRACKS, L2Entry, Order, TABLE_LEN, Track, part};
 use cckd_frames::{Frame, Frames};
 use cckd_shelf::{Slot, Stage};
 
@@ -56,4 +58,40 @@ pub(crate) fn load_table<T: Stage>(
             Ok(cache.put(group, &table))
         }
     }
+}
+
+/// The entry of a track in its group's table.
+fn entry_in(table: &[u8], order: Order, t: Track) -> L2Entry
+    requires { length table.now ≡ 2048 }
+    ensures { result ≡ entry_of order (bytes_at table.now (8 * (t.0 % 256)) 8) }
+{
+    let at = 8 * (t.0 % GROUP_TRACKS) as usize;
+    L2Entry::decode(order, part(table, at))
+}
+
+/// The entry of a track in the table of its group, which is read from its position where it isn't cached.
+pub(crate) fn table_entry<T: Stage>(
+    cache: &mut Frames,
+    stage: &mut T,
+    slot: Slot,
+    order: Order,
+    t: Track,
+    pos: u32,
+) -> Result<L2Entry, Device>
+    requires cache { IsCache cache.old }
+    requires within { HasBytes slot (pos + 2048) (seen T.Shows stage.old) }
+    ensures cache { IsCache cache.new }
+    ensures entry { IfOk result (λ e. e ≡ entry_of order (bytes_at (unwrap_or (table_of (t.0 / 256) (tables_in cache.new.entries)) []) (8 * (t.0 % 256)) 8)) }
+    ensures used { OnOk result (UsesTable (t.0 / 256) (tables_in cache.old.entries) (tables_in cache.new.entries)) }
+    ensures read { IsNone (table_of (t.0 / 256) (tables_in cache.old.entries)) → OnOk result
+        (IsPart slot pos 2048 (unwrap_or (table_of (t.0 / 256) (tables_in cache.new.entries)) []) (seen T.Shows stage.old)) }
+    ensures same { OnErr result (cache.new ≡ cache.old) }
+
+    // A cached table is not read.
+    ensures quiet { IsCached (t.0 / 256) (tables_in cache.old.entries) → IsOk result × (seen T.Shows stage.new ≡ seen T.Shows stage.old) }
+    ensures looks { OnlyLooks result (seen T.Shows stage.old) (seen T.Shows stage.new) }
+    ensures called { Called (seen T.Shows stage.old) (seen T.Shows stage.new) }
+{
+    let frame = load_table(cache, stage, slot, t.0 / GROUP_TRACKS, pos)?;
+    Ok(entry_in(cache.bytes(frame), order, t))
 }

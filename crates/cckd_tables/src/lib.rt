@@ -13,6 +13,7 @@ mod surveyed;
 mod tables;
 #[cfg(test)]
 mod tests;
+mod words;
 
 pub use cckd_base::{Extent, Layout, Misfit, Owner, ScanFault};
 pub use device::Device;
