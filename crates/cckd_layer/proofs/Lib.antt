@@ -7,3 +7,4 @@ pub mod PieceLemmas
 pub mod MountLemmas
 pub mod RoleLemmas
 pub mod FoundLemmas
+pub mod OpenLemmas

@@ -1,10 +1,11 @@
 -- What a file that was surveyed and found without a misfit has to do with the pieces that are made of it.
 use Rattle.std.proofs.Common.{◌≡◌, ◌⊎◌, ℕ, ◌+◌, ◌-◌, ◌/◌, ◌<◌, ◌≤◌, max, min, Bool, true, false, List, [], ◌∷◌, length, Option, None, Some, unwrap_or, refl, sym, ◌∙◌, ap, subst, inl, inr, arith}
 use Rattle.std.proofs.lemmas.Bool.{false≢true}
-use Rattle.cckd_shelf.specs.World.{World, IsSure, file_of}
+use Rattle.std.specs.Prelude.{Result, Ok, Err, IfOk}
+use Rattle.cckd_shelf.specs.World.{World, IsSure, file_of, after_sync}
 use Rattle.cckd_shelf.specs.Outcomes.{EachOutcome}
-use Rattle.cckd_shelf.specs.Seen.{Seen, Tells}
-use Rattle.cckd_shelf.proofs.OutcomeLemmas.{now_is_outcome}
+use Rattle.cckd_shelf.specs.Seen.{Seen, Tells, Makes}
+use Rattle.cckd_shelf.proofs.OutcomeLemmas.{now_is_outcome, sync_leaves_now}
 use Rattle.cckd_base.specs.declared.geometry.Layout.{Layout}
 use Rattle.cckd_base.specs.declared.entry.L2Entry.{L2Entry}
 use Rattle.cckd_base.specs.declared.space.Extent.{Extent}
@@ -12,30 +13,38 @@ use Rattle.cckd_base.specs.declared.space.Owner.TheVariants.{Track}
 use Rattle.cckd_base.specs.Geometry.{track_count, area_of, format_limit, IsLayout}
 use Rattle.cckd_base.specs.Entry.{word_at, entry_at}
 use Rattle.cckd_base.specs.Misfit.{entry_misfit}
-use Rattle.cckd_base.specs.Survey.{header_space, table_space, track_space, used_spaces, HasNoMisfit, StandApart}
+use Rattle.cckd_base.specs.Survey.{header_space, table_space, track_space, used_spaces, HasNoMisfit}
 use Rattle.cckd_base.specs.Image.{IsPlace, IsHeaded, IsSnug, IsImage}
 use Rattle.cckd_base.proofs.MemberLemmas.{In}
 use Rattle.cckd_base.proofs.HeaderLemmas.{headed_layout, headed_area, headed_short}
-use Rattle.cckd_base.proofs.ImageLemmas.{IsNamed, named_used, used_named, size_is, image_of_survey, entry_fits}
+use Rattle.cckd_base.proofs.ImageLemmas.{IsNamed, named_used, used_named, size_is, image_of_survey, word_fits, entry_fits}
 use Rattle.cckd_space.specs.declared.piece.Piece.{Piece}
 use Rattle.cckd_space.specs.declared.piece.Kind.TheVariants.{Used, Leaving, Reserved}
 use Rattle.cckd_space.specs.Pieces.{Has, pieces_of, used_piece, IsLaid}
 use Rattle.cckd_space.specs.Plan.{Plan}
-use Rattle.cckd_space.proofs.LaidLemmas.{laid_pieces_of}
 use Rattle.cckd_tables.specs.Staging.{Stages, IsStaged, IsMoved, new_entry, entry_for}
-use Rattle.cckd_tables.specs.Tables.{TableView, AreOf}
+use Rattle.cckd_tables.specs.Tables.{TableView, CachedTable, HasWords, HasTables, IsCachedOf, AreOf}
+use Rattle.std.specs.List.{AllByRecursion}
+use Rattle.cckd_image.specs.declared.header.ImageHeader.{ImageHeader}
+use Rattle.cckd_image.specs.declared.roles.Roles.{Roles}
+use Rattle.cckd_image.specs.Image.{identifiers_of}
+use Rattle.cckd_base.proofs.PlaceLemmas.{table_inside}
 use Rattle.cckd_layer.specs.Sits.{IsWhole, IsHeld, Rests, Sits, identifiers_for}
 use Rattle.cckd_layer.specs.Current.{stored_space, IsTableOf, IsTrackOf, IsInUse, IsReplaced, IsNew, IsPlaced, AreExactly, leaving_piece, placed_piece, Spans, Current}
 use Rattle.cckd_layer.specs.Stands.{LayerView, Stands, nothing_staged}
-use Rattle.cckd_layer.specs.Mounted.{ReadsFrom}
+use Rattle.cckd_layer.specs.Mounted.{LayerState, ReadsFrom, CanRead, IsFresh, kept_view, HasHeaders, HasSpaces, IsOf}
+use Rattle.cckd_base.specs.declared.open_fault.OpenFault.{OpenFault}
+use Rattle.cckd_layer.specs.Reads.{OfFile}
+use Rattle.cckd_layer.proofs.RoleLemmas.{headed_for}
 use Rattle.cckd_layer.proofs.PieceLemmas.{used_there, used_from, none_leaving, none_reserved, ends_within}
 
--- what was found of a file: its headers say the layout, its tables have no misfit, and each of its spaces ends inside it
+-- what was found of a file: its headers say the layout, its tables have no misfit, each of its spaces ends inside it, and its
+-- pieces cover it
 pub record IsFound (l : Layout) (file : List ℕ) : Type 0 where
   pub headed : IsHeaded (identifiers_for l) l file
   pub clean : HasNoMisfit l file
   pub snug : IsSnug l file
-  pub apart : StandApart 0 (used_spaces l file) (length file)
+  pub laid : IsLaid 0 (pieces_of 0 (used_spaces l file) (length file)) (length file)
 
 none_staged : (t : ℕ) → IsStaged t nothing_staged → ⊥
 none_staged t h = false≢true h
@@ -84,9 +93,6 @@ module _ (l : Layout) (file : List ℕ) (found : IsFound l file) where
     };
   }
 
-  laid : IsLaid 0 (pieces_of 0 (used_spaces l file) (length file)) (length file)
-  laid = laid_pieces_of 0 (used_spaces l file) (length file) found.apart
-
   not_replaced : (e : Extent) → IsReplaced l nothing_staged file e → ⊥
   not_replaced e (inl g) = none_moved g.0 g.1
   not_replaced e (inr t) = none_staged t.0 t.1
@@ -103,10 +109,10 @@ module _ (l : Layout) (file : List ℕ) (found : IsFound l file) where
       let used = used_spaces l file in
       record {
         spans = record {
-          laid = laid;
+          laid = found.laid;
           covers = omega arith;
           ends = inl (omega arith);
-          inside = λ p there kind. ends_within p 0 (pieces_of 0 used (length file)) (length file) laid there;
+          inside = λ p there kind. ends_within p 0 (pieces_of 0 used (length file)) (length file) found.laid there;
           short = headed_short (identifiers_for l) l file found.headed;
           limited = short;
         };
@@ -177,3 +183,66 @@ stands_reads v tables slot w same stages stands are =
       entries = subst (λ (l : Layout). (t : ℕ) → t < track_count l.geo → entry_misfit l (length file) t (new_entry l tables.stages file t) ≡ None) (sym same)
           (subst (λ (s : Stages). (t : ℕ) → t < track_count v.layout.geo → entry_misfit v.layout (length file) t (new_entry v.layout s file t) ≡ None) (sym stages) each);
     }
+
+tables_inside : (l : Layout) (file : List ℕ) → HasNoMisfit l file → HasTables l file
+tables_inside l file clean g low place = (table_inside l (length file) g (word_at l file g) (word_fits l file clean g low) place).1
+
+-- what was found of the file and made of it is the layer of that file
+pub opened_is : (roles : Roles) (file : List ℕ) (s : LayerState) (header : ImageHeader) (l : Layout) (len : ℕ) (used : List Extent)
+    → HasHeaders roles header l len file → HasSpaces l used file → s.header ≡ header → s.tables.layout ≡ l → s.tables.cached ≡ [] → HasWords l s.tables.words file
+    → s.plan.pieces ≡ pieces_of 0 used len → s.plan.size ≡ len → IsOf roles file s
+opened_is roles file s header l len used head spaces headers layout cached words pieces size =
+    let same = sym layout in
+    record {
+      sound = record {
+        headed = subst (λ (x : Layout). IsHeaded (identifiers_of roles) x file) same head.headed;
+        clean = subst (λ (x : Layout). HasNoMisfit x file) same spaces.clean;
+      };
+      header = headers ∙ head.read;
+      tables = record {
+        area = subst (λ (x : Layout). area_of x.groups ≤ length file) same (headed_area (identifiers_of roles) l file head.headed);
+        words = subst (λ (x : Layout). HasWords x s.tables.words file) same words;
+        tables = subst (λ (x : Layout). HasTables x file) same (tables_inside l file spaces.clean);
+        cached = subst (λ (cs : List CachedTable). AllByRecursion (IsCachedOf s.tables.layout file) cs) (sym cached) tt;
+      };
+      pieces = pieces ∙ ap (λ (es : List Extent). pieces_of 0 es len) spaces.used ∙ ap (pieces_of 0 (used_spaces l file)) head.long
+          ∙ ap (λ (x : Layout). pieces_of 0 (used_spaces x file) (length file)) same;
+      size = size ∙ head.long;
+    }
+
+-- A layer that was just mounted stands, where each space ends inside the file: a stop leaves the file as it is.
+pub mount_stands : (roles : Roles) (slot limit : ℕ) (s : LayerState) (w new : World) → IsSure w → new ≡ after_sync slot w → limit ≤ format_limit
+    → IsFresh slot limit s → IsOf roles (file_of w slot) s → IsSnug s.tables.layout (file_of w slot) → Stands (kept_view s) slot new
+mount_stands roles slot limit s w new sure made short fresh of snug =
+    let file = file_of w slot in
+    let l = s.tables.layout in
+    let used = used_spaces l file in
+    let laid : IsLaid 0 (pieces_of 0 used (length file)) (length file) =
+        subst (λ (ps : List Piece). IsLaid 0 ps (length file)) of.pieces (subst (IsLaid 0 s.plan.pieces) of.size fresh.sound.laid) in
+    let found : IsFound l file = record { headed = headed_for roles l file of.sound.headed; clean = of.sound.clean; snug = snug; laid = laid } in
+    let plain : Stands (record { layout = l; stages = nothing_staged; claims = []; plan = s.plan; marked = false }) slot new =
+        mounted_stands l file s.plan slot new found (subst IsSure (sym made) sure) (ap (λ (x : World). file_of x slot) made) of.pieces of.size
+        (subst (λ (n : ℕ). n ≤ format_limit) (sym fresh.limit_is) short)
+        (subst (λ (x : World). EachOutcome slot (λ left. left ≡ file) x.events) (sym made) (sync_leaves_now slot w.events sure)) in
+    subst (λ (stages : Stages). Stands (record { layout = l; stages = stages; claims = []; plan = s.plan; marked = s.marked }) slot new) (sym fresh.stages)
+    (subst (λ (m : Bool). Stands (record { layout = l; stages = nothing_staged; claims = []; plan = s.plan; marked = m }) slot new) (sym fresh.marked) plain)
+
+-- and its tracks can be read
+pub mount_reads : (roles : Roles) (slot limit : ℕ) (s : LayerState) (file : List ℕ) → IsFresh slot limit s → IsOf roles file s → ReadsFrom s.tables file
+mount_reads roles slot limit s file fresh of =
+    sound_reads s.tables file (headed_layout (identifiers_of roles) s.tables.layout file of.sound.headed) of.sound.clean fresh.stages of.tables
+
+-- the same of what a mounting answers
+pub all_stand : (roles : Roles) (slot limit : ℕ) (r : Result LayerState OpenFault) (w new : World) → IsSure w → new ≡ after_sync slot w → limit ≤ format_limit
+    → IfOk r (IsFresh slot limit) → IfOk r (IsOf roles (file_of w slot)) → IfOk r (λ s. IsSnug s.tables.layout (file_of w slot) → Stands (kept_view s) slot new)
+all_stand roles slot limit (Err why) w new sure made short fresh of = tt
+all_stand roles slot limit (Ok s) w new sure made short fresh of = λ snug. mount_stands roles slot limit s w new sure made short fresh of snug
+
+pub all_read : (roles : Roles) (slot limit : ℕ) (r : Result LayerState OpenFault) (old new : Seen) → (Tells new → Tells old) → Makes (after_sync slot) old new
+    → IfOk r (IsFresh slot limit) → OfFile slot (λ file. IfOk r (IsOf roles file)) old → IfOk r (λ s. CanRead s new)
+all_read roles slot limit (Err why) old new tells made fresh of = tt
+all_read roles slot limit (Ok s) old new tells made fresh of = λ told sure.
+    let e = made (tells told) in
+    subst (λ (n : ℕ). ReadsFrom s.tables (file_of new.world n)) (sym fresh.slot_is)
+    (subst (λ (w : World). ReadsFrom s.tables (file_of w slot)) (sym e)
+    (mount_reads roles slot limit s (file_of old.world slot) fresh (of (tells told) (subst IsSure e sure))))

@@ -19,7 +19,7 @@ use Rattle.cckd_image.specs.declared.header.ImageHeader.{ImageHeader}
 use Rattle.cckd_image.specs.declared.roles.Roles.{Roles}
 use Rattle.cckd_image.specs.Image.{identifiers_of, header_of}
 use Rattle.cckd_space.specs.Pieces.{Has, pieces_of, used_piece}
-use Rattle.cckd_space.specs.Plan.{Plan}
+use Rattle.cckd_space.specs.Plan.{Plan, IsSound as IsSoundPlan}
 use Rattle.cckd_tables.specs.Scan.{first_misfit}
 use Rattle.cckd_tables.specs.Staging.{new_entry}
 use Rattle.cckd_tables.specs.Tables.{TableView, AreOf}
@@ -55,7 +55,8 @@ CanRead s = OfFile s.slot (ReadsFrom s.tables)
 abbrev pub reserve : Layout → ℕ
 reserve l = 2 * (track_count l.geo + l.groups + 1024) + 1
 
--- nothing is staged, kept in memory or changed yet
+-- Nothing is staged, kept in memory or changed yet. The pieces cover the file, the header area is one of them, and there is
+-- room for as many as a layer may have.
 pub record IsFresh (slot limit : ℕ) (s : LayerState) : Type 0 where
   pub slot_is : s.slot ≡ slot
   pub limit_is : s.plan.limit ≡ limit
@@ -64,6 +65,7 @@ pub record IsFresh (slot limit : ℕ) (s : LayerState) : Type 0 where
   pub marked : s.marked ≡ false
   pub hardened : s.hardened ≡ true
   pub broken : s.broken ≡ false
+  pub sound : IsSoundPlan s.plan
   pub room : reserve s.tables.layout ≤ s.plan.spare + length s.plan.pieces
   pub area : Has (used_piece (header_space s.tables.layout.groups)) s.plan.pieces
 
@@ -97,6 +99,12 @@ IsSurveyCause slot l old (open_fault.Scan at why) = (at ≡ slot) × OfFile slot
 IsSurveyCause slot l old open_fault.ReadFault = Unit {0}
 IsSurveyCause slot l old open_fault.Memory = Unit {0}
 IsSurveyCause slot l old _ = ⊥
+
+-- why the words of a file aren't loaded
+abbrev pub IsLoadCause : OpenFault → Type 0
+IsLoadCause open_fault.ReadFault = Unit {0}
+IsLoadCause open_fault.Memory = Unit {0}
+IsLoadCause _ = ⊥
 
 -- why the file of a slot is none of a layer: the first fault of its headers, or, where they have none, its first misfit
 abbrev pub IsFileCause : Roles → ℕ → Seen → OpenFault → Type 0

@@ -3,6 +3,7 @@
 
 mod held;
 mod laws;
+mod layer;
 mod mount_laws;
 mod mounting;
 mod reading;
@@ -12,3 +13,4 @@ pub use cckd_shelf::Slot;
 pub use cckd_space::Space;
 pub use cckd_tables::{StagedEntry, StagedWord};
 pub use held::Held;
+pub use layer::Layer;
