@@ -4,7 +4,6 @@
 mod held;
 mod laws;
 mod layer;
-mod mount_laws;
 mod mounting;
 mod reading;
 
