@@ -8,3 +8,4 @@ pub mod MountLemmas
 pub mod RoleLemmas
 pub mod FoundLemmas
 pub mod OpenLemmas
+pub mod CountLemmas

@@ -1,5 +1,5 @@
 -- What a layer answers to a read of a track, and what a read does to the outside.
-use Rattle.std.specs.Prelude.{ℕ, ◌≡◌, ◌⊎◌, ◌+◌, ◌≤◌, ◌/◌, List, ◌++◌, length, take, drop, Option, Some, None, Result, Ok, Err}
+use Rattle.std.specs.Prelude.{ℕ, zero, suc, if◌then◌else◌, ◌≡◌, ◌⊎◌, ◌+◌, ◌≤◌, ◌/◌, List, ◌++◌, length, take, drop, Option, Some, None, Result, Ok, Err}
 use Rattle.cckd_shelf.specs.declared.fault.Faults.{Faults}
 use Rattle.cckd_shelf.specs.declared.fault.Kind.TheVariants.{Reads}
 use Rattle.cckd_shelf.specs.Faults.{Raises}
@@ -11,6 +11,8 @@ use Rattle.cckd_base.specs.declared.layer_fault.LayerFault.TheVariants as fault
 use Rattle.cckd_tables.specs.Tables.{TableView}
 use Rattle.cckd_tables.specs.Cached.{IsCached, KeepsCached}
 use Rattle.cckd_tables.specs.Looking.{NeedsTable, NeedsNoTable, with_cached}
+use Rattle.std.specs.Option.{is_some}
+use Rattle.cckd_layer.specs.Held.{Tracks}
 use Rattle.cckd_layer.specs.declared.held.Held.{Held}
 use Rattle.cckd_layer.specs.declared.held.Held.TheVariants.{Here, Below}
 
@@ -89,3 +91,8 @@ pub record LooksOnce {A : Type 0} (t : ℕ) (result : Result A LayerFault) (old 
 pub record OnlyReads {A : Type 0} (result : Result A LayerFault) (old new : Seen) : Type 0 where
   pub kept : Stays old new
   pub counts : CountsReads result old.faults new.faults
+
+-- how many of the first tracks a map has
+abbrev pub tracks_in : Tracks → ℕ → ℕ
+tracks_in m zero = 0
+tracks_in m (suc n) = tracks_in m n + (if is_some (m n) then 1 else 0)

@@ -110,7 +110,7 @@ pub(crate) fn value_by<U: Unit, T: Stage>(
 }
 
 /// The entry of a track, the staged one or that of the file, by at most one read.
-fn entry_of<T: Stage>(
+pub(crate) fn entry_of<T: Stage>(
     tables: &mut Tables,
     stage: &mut T,
     slot: Slot,
