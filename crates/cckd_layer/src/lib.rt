@@ -7,6 +7,8 @@ mod laws;
 mod layer;
 mod mounting;
 mod reading;
+#[cfg(test)]
+mod tests;
 
 pub use cckd_base::Layout;
 pub use cckd_shelf::Slot;
