@@ -2,3 +2,4 @@ pub mod AccountLemmas
 pub mod SpanLemmas
 pub mod HeadLemmas
 pub mod FillLemmas
+pub mod PutLemmas

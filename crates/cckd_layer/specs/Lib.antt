@@ -2,5 +2,6 @@ pub mod Held
 pub mod Sits
 pub mod Current
 pub mod Changes
+pub mod Puts
 pub mod Stands
 pub mod Closed

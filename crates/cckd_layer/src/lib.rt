@@ -1,9 +1,11 @@
 //! One image that is written: what holds of its file between calls, and the acts that keep it so.
 #![tactic(auto)]
 
+mod laws;
+mod placing;
+
 pub use cckd_base::Layout;
 pub use cckd_shelf::Slot;
 pub use cckd_space::Space;
 pub use cckd_tables::{StagedEntry, StagedWord};
-
-mod laws;
+pub use placing::{PutFault, put_bytes};
