@@ -3,3 +3,5 @@ pub mod SpanLemmas
 pub mod HeadLemmas
 pub mod FillLemmas
 pub mod PutLemmas
+pub mod CurrentLemmas
+pub mod StandLemmas

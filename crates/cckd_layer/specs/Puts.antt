@@ -1,5 +1,5 @@
 -- Bytes that are put to a free place: where they go, what is done to the file, and when they aren't.
-use Rattle.std.specs.Prelude.{ℕ, ◌≡◌, ◌⊎◌, ◌<◌, ◌≤◌, List, Result, Ok, Err}
+use Rattle.std.specs.Prelude.{ℕ, ◌≡◌, ◌⊎◌, ◌+◌, ◌<◌, ◌≤◌, max, List, Result, Ok, Err}
 use Rattle.cckd_base.specs.declared.space.Full.{Full}
 use Rattle.cckd_shelf.specs.declared.fault.Faults.{Faults}
 use Rattle.cckd_shelf.specs.declared.fault.Kind.TheVariants.{Writes}
@@ -11,9 +11,10 @@ use Rattle.cckd_space.specs.Plan.{Plan, Becomes, room, numbers, place_of, with_r
 use Rattle.cckd_layer.specs.declared.placing.PutFault.{PutFault}
 use Rattle.cckd_layer.specs.declared.placing.PutFault.TheVariants as fault
 
--- so many bytes are reserved where they first fit, or else at the end, where there is room
+-- so many bytes are reserved where they first fit, or else at the end, where there is room below the limit
 pub record IsReserved (need : ℕ) (old new : Plan) : Type 0 where
   pub roomy : (need ≤ largest old.pieces) ⊎ (need ≤ room old)
+  pub within : place_of need old.pieces + need ≤ max old.limit old.size
   pub becomes : Becomes old new (with_reserved need old.pieces) (size_with need old)
 
 -- neither a free piece nor the end has room for so many bytes
