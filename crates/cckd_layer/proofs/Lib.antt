@@ -5,3 +5,4 @@ pub mod FillLemmas
 pub mod PutLemmas
 pub mod CurrentLemmas
 pub mod StandLemmas
+pub mod StageLemmas
