@@ -6,3 +6,4 @@ pub mod PutLemmas
 pub mod CurrentLemmas
 pub mod StandLemmas
 pub mod StageLemmas
+pub mod StagedLemmas

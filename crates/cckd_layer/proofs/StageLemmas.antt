@@ -128,7 +128,7 @@ module _ (l : Layout) (s n : Stages) (file : List ℕ) (t : ℕ) (e : L2Entry) (
   ]
 
   -- the pieces once the old space leaves
-  entry_leaves : (R : Extent → Type 0) (ps : List Piece) (end : ℕ) → IsLaid 0 ps end → Accounts (IsInUse l s file) (IsReplaced l s file) R ps
+  pub entry_leaves : (R : Extent → Type 0) (ps : List Piece) (end : ℕ) → IsLaid 0 ps end → Accounts (IsInUse l s file) (IsReplaced l s file) R ps
       → Accounts (IsInUse l n file) (IsReplaced l n file) R (left_at (entry_at l file t).pos ps)
   entry_leaves R ps end laid a = elim (place_or_not (entry_at l file t).pos) [
     | inl place ↦
@@ -164,7 +164,7 @@ new_owner s x h none = elim h [
 ]
 
 -- no track's new space is that of this one, where none is staged
-owner_fresh : (s : Stages) (t : ℕ) → entry_for t s.entries ≡ None → (x : Extent) → IsNew s x → x.owner ≡ Track t → ⊥
+pub owner_fresh : (s : Stages) (t : ℕ) → entry_for t s.entries ≡ None → (x : Extent) → IsNew s x → x.owner ≡ Track t → ⊥
 owner_fresh s t fresh x h own = elim h [
   | inl table ↦ let k : Table table.0 ≡ Track t = sym (ap (λ (y : Extent). y.owner) table.1.is) ∙ own in cc
   | inr track ↦
@@ -174,7 +174,7 @@ owner_fresh s t fresh x h own = elim h [
 ]
 
 -- else it is the one that was staged
-owner_again : (s : Stages) (t : ℕ) (o : L2Entry) → entry_for t s.entries ≡ Some o → (x : Extent) → IsNew s x → x.owner ≡ Track t → (x ≡ stored_space t o) × IsPlace o.pos
+pub owner_again : (s : Stages) (t : ℕ) (o : L2Entry) → entry_for t s.entries ≡ Some o → (x : Extent) → IsNew s x → x.owner ≡ Track t → (x ≡ stored_space t o) × IsPlace o.pos
 owner_again s t o again x h own = elim h [
   | inl table ↦ absurd (let k : Table table.0 ≡ Track t = sym (ap (λ (y : Extent). y.owner) table.1.is) ∙ own in cc)
   | inr track ↦
@@ -214,7 +214,7 @@ module _ (s n : Stages) (t : ℕ) (e : L2Entry) (st : StagesEntry t e s n) where
   new_here place x same = inr (t, record { entry = e; named = st.here; place = place; is = sym same })
 
   -- a claim becomes the entry's space, where the track's old new space is none or was taken out
-  entry_takes : (U L R : Extent → Type 0) (cs : List Extent) (ps : List Piece) → IsPlace e.pos → AreClaims (claim e.pos e.size ∷ cs)
+  pub entry_takes : (U L R : Extent → Type 0) (cs : List Extent) (ps : List Piece) → IsPlace e.pos → AreClaims (claim e.pos e.size ∷ cs)
       → ((x : Extent) → R x → IsPlaced s (claim e.pos e.size ∷ cs) x × (x.owner ≡ Track t → ⊥))
       → ((x : Extent) → IsPlaced s (claim e.pos e.size ∷ cs) x → (x.owner ≡ Track t → ⊥) → R x)
       → Accounts U L R ps → Accounts U L (IsPlaced n cs) ps
@@ -242,7 +242,7 @@ module _ (s n : Stages) (t : ℕ) (e : L2Entry) (st : StagesEntry t e s n) where
       (accounts_renamed U L R c y ps (back c (inr (inl refl)) (λ own. let k : Nobody ≡ Track t = own in cc)) refl refl a)
 
   -- an entry that names no space takes no claim
-  entry_takes_none : (U L R : Extent → Type 0) (cs : List Extent) (ps : List Piece) → (IsPlace e.pos → ⊥) → AreClaims cs
+  pub entry_takes_none : (U L R : Extent → Type 0) (cs : List Extent) (ps : List Piece) → (IsPlace e.pos → ⊥) → AreClaims cs
       → ((x : Extent) → R x → IsPlaced s cs x × (x.owner ≡ Track t → ⊥)) → ((x : Extent) → IsPlaced s cs x → (x.owner ≡ Track t → ⊥) → R x)
       → Accounts U L R ps → Accounts U L (IsPlaced n cs) ps
   entry_takes_none U L R cs ps none are out back a =
@@ -252,3 +252,138 @@ module _ (s n : Stages) (t : ℕ) (e : L2Entry) (st : StagesEntry t e s n) where
         | inl new ↦ elim (new_or_old x new) [ inl here ↦ absurd (none here.1) | inr old ↦ back x (inl old.0) old.1 ]
         | inr later ↦ let nobody = among_owner cs x are later in back x (inr later) (λ own. let k : Nobody ≡ Track t = sym nobody ∙ own in cc)
       ]) a
+
+-- ---- the spaces that the file names, where other things are staged
+
+pub use_as : (l : Layout) (s n : Stages) (file : List ℕ) → ((g : ℕ) → IsMoved g n → IsMoved g s) → ((u : ℕ) → IsStaged u n → IsStaged u s) → (x : Extent) → IsInUse l s file x → IsInUse l n file x
+use_as l s n file m st x h = elim h [
+  | inl area ↦ inl area
+  | inr (inl table) ↦ inr (inl (table.0, (λ k. table.1 (m table.0 k)), table.2))
+  | inr (inr track) ↦ inr (inr (track.0, (λ k. track.1 (st track.0 k)), track.2))
+]
+
+pub replaced_as : (l : Layout) (s n : Stages) (file : List ℕ) → ((g : ℕ) → IsMoved g s → IsMoved g n) → ((u : ℕ) → IsStaged u s → IsStaged u n) → (x : Extent) → IsReplaced l s file x → IsReplaced l n file x
+replaced_as l s n file m st x h = elim h [
+  | inl table ↦ inl (table.0, m table.0 table.1, table.2)
+  | inr track ↦ inr (track.0, st track.0 track.1, track.2)
+]
+
+none_moved : (g : ℕ) (s : Stages) → place_for g s.words ≡ None → IsMoved g s → ⊥
+none_moved g s e h = absurd_none (place_for g s.words) e h
+  where
+    absurd_none : (o : Option ℕ) → o ≡ None → IsSome o → ⊥
+    absurd_none None e h = cc
+    absurd_none (Some x) e h = absurd cc
+
+-- ---- the same for the table of a group that had no staged word
+
+module _ (l : Layout) (s n : Stages) (file : List ℕ) (g pos : ℕ) (low : g < l.groups) (fresh : place_for g s.words ≡ None) (st : StagesWord g pos s n) where
+
+  word_staged : (u : ℕ) → IsStaged u s → IsStaged u n
+  word_staged u h = staged_as u s n (st.entries u) h
+
+  word_unstaged : (u : ℕ) → IsStaged u n → IsStaged u s
+  word_unstaged u h = staged_as u n s (sym (st.entries u)) h
+
+  pub word_moved : (h : ℕ) → IsMoved h s → IsMoved h n
+  word_moved h k = moved_as h s n (st.others h (λ same. none_moved g s fresh (subst (λ (x : ℕ). IsMoved x s) (sym same) k))) k
+
+  table_fewer : (x : Extent) → IsInUse l n file x → IsInUse l s file x × (x ≡ table_space g (word_at l file g) → ⊥)
+  table_fewer x h = elim h [
+    | inl area ↦ (inl area, owners_differ x (table_space g (word_at l file g)) (λ o. let k : Header ≡ Table g = sym (ap (λ (y : Extent). y.owner) area) ∙ o in cc))
+    | inr (inl table) ↦ (
+        let other : g ≡ table.0 → ⊥ = λ same. table.1 (subst (λ (u : ℕ). IsMoved u n) same (some_moved g pos n st.here)) in
+        (inr (inl (table.0, (λ m. table.1 (word_moved table.0 m)), table.2)),
+        owners_differ x (table_space g (word_at l file g)) (λ o. let k : Table table.0 ≡ Table g = sym (ap (λ (y : Extent). y.owner) table.2.is) ∙ o in other (let q : table.0 ≡ g = cc in sym q))))
+    | inr (inr track) ↦ (inr (inr (track.0, (λ m. track.1 (word_staged track.0 m)), track.2)),
+        owners_differ x (table_space g (word_at l file g)) (λ o. let k : Track track.0 ≡ Table g = sym (ap (λ (y : Extent). y.owner) track.2.is) ∙ o in cc))
+  ]
+
+  table_more : (x : Extent) → IsInUse l s file x → (x ≡ table_space g (word_at l file g) → ⊥) → IsInUse l n file x
+  table_more x h far = elim h [
+    | inl area ↦ inl area
+    | inr (inl table) ↦ elim (cases_eq g table.0) [
+      | inl same ↦ absurd (far (table.2.is ∙ subst (λ (u : ℕ). table_space u (word_at l file u) ≡ table_space g (word_at l file g)) same refl))
+      | inr other ↦ inr (inl (table.0, (λ m. table.1 (moved_as table.0 n s (sym (st.others table.0 other)) m)), table.2))
+    ]
+    | inr (inr track) ↦ inr (inr (track.0, (λ m. track.1 (word_unstaged track.0 m)), track.2))
+  ]
+
+  table_same_use : (IsPlace (word_at l file g) → ⊥) → (x : Extent) → IsInUse l s file x → IsInUse l n file x
+  table_same_use none x h = elim h [
+    | inl area ↦ inl area
+    | inr (inl table) ↦ elim (cases_eq g table.0) [
+      | inl same ↦ absurd (none (subst (λ (u : ℕ). IsPlace (word_at l file u)) (sym same) table.2.place))
+      | inr other ↦ inr (inl (table.0, (λ m. table.1 (moved_as table.0 n s (sym (st.others table.0 other)) m)), table.2))
+    ]
+    | inr (inr track) ↦ inr (inr (track.0, (λ m. track.1 (word_unstaged track.0 m)), track.2))
+  ]
+
+  table_replaced : (x : Extent) → IsReplaced l n file x → IsReplaced l s file x ⊎ ((table_space g (word_at l file g) ≡ x) × IsPlace (word_at l file g))
+  table_replaced x h = elim h [
+    | inl table ↦ elim (cases_eq g table.0) [
+      | inl same ↦ inr (sym (table.2.is ∙ subst (λ (u : ℕ). table_space u (word_at l file u) ≡ table_space g (word_at l file g)) same refl), subst (λ (u : ℕ). IsPlace (word_at l file u)) (sym same) table.2.place)
+      | inr other ↦ inl (inl (table.0, moved_as table.0 n s (sym (st.others table.0 other)) table.1, table.2))
+    ]
+    | inr track ↦ inl (inr (track.0, word_unstaged track.0 track.1, track.2))
+  ]
+
+  pub table_leaves : (R : Extent → Type 0) (ps : List Piece) (end : ℕ) → IsLaid 0 ps end → Accounts (IsInUse l s file) (IsReplaced l s file) R ps
+      → Accounts (IsInUse l n file) (IsReplaced l n file) R (left_at (word_at l file g) ps)
+  table_leaves R ps end laid a = elim (place_or_not (word_at l file g)) [
+    | inl place ↦
+        let x = table_space g (word_at l file g) in
+        subst (Accounts (IsInUse l n file) (IsReplaced l n file) R) (sym (left_is (word_at l file g) ps place))
+        (accounts_same (λ y. IsInUse l s file y × (y ≡ x → ⊥)) (λ y. IsReplaced l s file y ⊎ (x ≡ y)) R (IsInUse l n file) (IsReplaced l n file) R (replaced (is_used_at x.pos) (λ p. left p ∷ []) ps)
+        (λ y h. table_more y h.0 h.1) table_fewer
+        (λ y h. elim h [ inl old ↦ replaced_as l s n file word_moved word_staged y old | inr same ↦ inl (g, some_moved g pos n st.here, record { low = low; place = place; is = sym same }) ])
+        (λ y h. elim (table_replaced y h) [ inl old ↦ inl old | inr here ↦ inr here.0 ])
+        (λ y h. h) (λ y h. h)
+        (accounts_left (IsInUse l s file) (IsReplaced l s file) R x ps end laid
+        (inr (inl (g, none_moved g s fresh, record { low = low; place = place; is = refl }))) a))
+    | inr none ↦
+        let never = not_place (word_at l file g) none in
+        subst (Accounts (IsInUse l n file) (IsReplaced l n file) R) (sym (left_none (word_at l file g) ps none))
+        (accounts_same (IsInUse l s file) (IsReplaced l s file) R (IsInUse l n file) (IsReplaced l n file) R ps
+        (table_same_use never) (λ y h. (table_fewer y h).0) (replaced_as l s n file word_moved word_staged)
+        (λ y h. elim (table_replaced y h) [ inl old ↦ old | inr here ↦ absurd (never here.1) ]) (λ y h. h) (λ y h. h) a)
+  ]
+
+  -- a claim becomes the new table's space
+  pub word_takes : (U L : Extent → Type 0) (cs : List Extent) (ps : List Piece) → AreClaims (claim pos 2048 ∷ cs) → Accounts U L (IsPlaced s (claim pos 2048 ∷ cs)) ps → Accounts U L (IsPlaced n cs) ps
+  word_takes U L cs ps are a =
+      let c = claim pos 2048 in
+      let y = table_space g pos in
+      let R = IsPlaced s (c ∷ cs) in
+      let still : (x : Extent) → IsNew s x → IsNew n x = λ x h. elim h [
+        | inl table ↦ elim (cases_eq g table.0) [
+          | inl same ↦ absurd (none_moved g s fresh (subst (λ (u : ℕ). IsMoved u s) (sym same) (some_moved table.0 table.1.pos s table.1.named)))
+          | inr other ↦ inl (table.0, record { pos = table.1.pos; named = st.others table.0 other ∙ table.1.named; is = table.1.is })
+        ]
+        | inr track ↦ inr (track.0, record { entry = track.1.entry; named = st.entries track.0 ∙ track.1.named; place = track.1.place; is = track.1.is })
+      ] in
+      let or_old : (x : Extent) → IsNew n x → (x ≡ y) ⊎ IsNew s x = λ x h. elim h [
+        | inl table ↦ elim (cases_eq g table.0) [
+          | inl same ↦
+              let there : place_for g n.words ≡ Some table.1.pos = subst (λ (u : ℕ). place_for u n.words ≡ Some table.1.pos) (sym same) table.1.named in
+              let one : table.1.pos ≡ pos = (let f : Some table.1.pos ≡ Some pos = sym there ∙ st.here in cc) in
+              inl (table.1.is ∙ (ap (λ (u : ℕ). table_space u table.1.pos) (sym same) ∙ ap (table_space g) one))
+          | inr other ↦ inr (inl (table.0, record { pos = table.1.pos; named = sym (st.others table.0 other) ∙ table.1.named; is = table.1.is }))
+        ]
+        | inr track ↦ inr (inr (track.0, record { entry = track.1.entry; named = sym (st.entries track.0) ∙ track.1.named; place = track.1.place; is = track.1.is }))
+      ] in
+      accounts_same U L (λ x. (R x × (x ≡ c → ⊥)) ⊎ (y ≡ x)) U L (IsPlaced n cs) ps (λ x h. h) (λ x h. h) (λ x h. h) (λ x h. h)
+      (λ x h. elim h [
+        | inr same ↦ inl (inl (g, record { pos = pos; named = st.here; is = sym same }))
+        | inl (inl new, far) ↦ inl (still x new)
+        | inl (inr (inl same), far) ↦ absurd (far (sym same))
+        | inl (inr (inr later), far) ↦ inr later
+      ])
+      (λ x h. elim h [
+        | inl new ↦ elim (or_old x new) [
+          | inl here ↦ inr (sym here)
+          | inr old ↦ inl (inl old, λ same. new_owner s x old (ap (λ (z : Extent). z.owner) same))
+        ]
+        | inr later ↦ inl (inr (inr later), λ same. are.1 (subst (λ (z : Extent). IsAmong z cs) same later))
+      ])
+      (accounts_renamed U L R c y ps (inr (inl refl)) refl refl a)

@@ -1,5 +1,5 @@
 -- What the acts of a layer make of its pieces.
-use Rattle.std.specs.Prelude.{ℕ, ◌≡◌, ◌==◌, ◌<◌, ◌≤◌, nat_lt, nat_le, ◌&&◌, ◌||◌, min, max, if◌then◌else◌, List, [], ◌∷◌, map, Option, Some, None}
+use Rattle.std.specs.Prelude.{ℕ, ◌≡◌, ◌==◌, ◌<◌, ◌≤◌, nat_lt, nat_le, ◌&&◌, ◌||◌, min, max, if◌then◌else◌, List, [], ◌∷◌, map, Option, Some, None, IsSome}
 use Rattle.cckd_base.specs.declared.entry.L2Entry.{L2Entry}
 use Rattle.cckd_base.specs.declared.space.Extent.{Extent}
 use Rattle.cckd_base.specs.Entry.{see_parent}
@@ -33,10 +33,15 @@ left_at pos ps =
 abbrev pub given_back : ℕ → List Piece → List Piece
 given_back pos ps = merged (replaced (is_reserved_at pos) (λ p. freed p ∷ []) ps)
 
--- A Reserved piece is given back where the position names a space, and the pieces end no later than a file of this length
--- does, but for what isn't Free.
+-- A Reserved piece is given back, and a Free piece that ends the pieces then is cut back to a file of this length.
 abbrev pub GivesBack : ℕ → ℕ → Plan → Plan → Type 0
-GivesBack pos len old new = Becomes old new (cut len old.size (given_back pos old.pieces)) (max (used_end (given_back pos old.pieces)) (min len old.size))
+GivesBack pos len old new =
+    Becomes old new (cut len old.size (given_back pos old.pieces)) (max (used_end (given_back pos old.pieces)) (min len old.size))
+
+-- so it is where a Reserved piece stands at the position, and else nothing is done
+pub record MayGiveBack (pos len : ℕ) (old new : Plan) : Type 0 where
+  pub given : IsSome (first (is_reserved_at pos) old.pieces) → GivesBack pos len old new
+  pub kept : first (is_reserved_at pos) old.pieces ≡ None → new ≡ old
 
 -- the pieces once a found Reserved one is settled as a space, where it can hold that
 abbrev pub settle_found : Extent → List Piece → Option Piece → List Piece
