@@ -13,7 +13,7 @@ use Rattle.cckd_base.specs.Survey.{Item, table_item, entry_item, table_items, tr
 use Rattle.cckd_tables.specs.Inside.{items_of_words, items_of_table, tracks_end}
 
 -- bytes of a part of a file
-part_of_part : (file : List ℕ) (p n q m : ℕ) → q + m ≤ n → bytes_at (bytes_at file p n) q m ≡ bytes_at file (p + q) m
+pub part_of_part : (file : List ℕ) (p n q m : ℕ) → q + m ≤ n → bytes_at (bytes_at file p n) q m ≡ bytes_at file (p + q) m
 part_of_part file p n q m h =
     let e : n ≡ q + (n - q) = omega arith in
     ap (λ (k : ℕ). take m (drop q (take k (drop p file)))) e

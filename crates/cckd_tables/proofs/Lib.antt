@@ -8,3 +8,12 @@ pub mod ItemLemmas
 pub mod FormedLemmas
 pub mod FileLemmas
 pub mod SurveyLemmas
+pub mod StagedLemmas
+pub mod WrittenLemmas
+pub mod BlendLemmas
+pub mod TableLoopLemmas
+pub mod WordLoopLemmas
+pub mod EntryLoopLemmas
+pub mod EntryRunLemmas
+pub mod PutRunLemmas
+pub mod CommitLemmas

@@ -1,5 +1,7 @@
 pub mod Blend
+pub mod Cells
 pub mod Commit
+pub mod Device
 pub mod Inside
 pub mod Kept
 pub mod Scan

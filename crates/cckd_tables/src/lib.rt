@@ -1,15 +1,22 @@
 //! The two-level tables of one image: the survey of all that they name.
 #![tactic(auto)]
 
+mod cell;
+mod commit;
+mod device;
+mod entries;
 mod item;
 mod kept;
 mod progress;
 mod read;
 mod staged;
 mod surveyed;
+mod table;
 #[cfg(test)]
 mod tests;
 
 pub use cckd_base::{Extent, Layout, Misfit, Owner, ScanFault};
+pub use commit::Commit;
+pub use device::Device;
 pub use staged::{StagedEntry, StagedWord};
 pub use surveyed::{SurveyFault, Surveyed, scan, survey};
