@@ -7,3 +7,5 @@ pub mod CurrentLemmas
 pub mod StandLemmas
 pub mod StageLemmas
 pub mod StagedLemmas
+pub mod NamedLemmas
+pub mod NearLemmas
