@@ -9,3 +9,4 @@ pub mod StageLemmas
 pub mod StagedLemmas
 pub mod NamedLemmas
 pub mod NearLemmas
+pub mod CommitLemmas

@@ -5,6 +5,7 @@ use Rattle.cckd_layer.proofs.CurrentLemmas.{current_placed}
 use Rattle.cckd_layer.proofs.StandLemmas.{stands_put}
 use Rattle.cckd_layer.proofs.StagedLemmas.{current_staged}
 use Rattle.cckd_layer.proofs.NearLemmas.{near_whole}
+use Rattle.cckd_layer.proofs.CommitLemmas.{can_commit}
 use Rattle.cckd_layer.proofs.laws.dummy.Goals as goal
 
 pub returns : goal.returns
