@@ -10,3 +10,5 @@ pub mod StagedLemmas
 pub mod NamedLemmas
 pub mod NearLemmas
 pub mod CommitLemmas
+pub mod SpaceLemmas
+pub mod SettledLemmas
