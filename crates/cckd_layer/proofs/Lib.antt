@@ -12,3 +12,4 @@ pub mod NearLemmas
 pub mod CommitLemmas
 pub mod SpaceLemmas
 pub mod SettledLemmas
+pub mod CommittedLemmas
