@@ -31,7 +31,7 @@ use Rattle.cckd_tables.proofs.CommitLemmas.{ready_of}
 use Rattle.cckd_layer.specs.Held.{NullBytes, Tracks, Later, IsLater, LiesWithin, Keeps, Holds, held, held_in}
 use Rattle.cckd_layer.specs.Sits.{identifiers_for, IsWhole, IsMarked, IsHeld, Rests, Sits}
 use Rattle.cckd_layer.specs.Current.{stored_space, IsTableOf, IsTrackOf, IsInUse, IsReplaced, IsNew, IsAmong, IsPlaced, placed_piece, Accounts, Spans, Current}
-use Rattle.cckd_layer.specs.Acts.{settled_all, spaces_of}
+use Rattle.cckd_layer.specs.Acts.{settled_all, spaces_of, committed_pieces}
 use Rattle.cckd_layer.specs.Stands.{nothing_staged, LayerView, Stands}
 use Rattle.cckd_layer.proofs.AccountLemmas.{accounts_same, accounts_retired}
 use Rattle.cckd_layer.proofs.SpanLemmas.{KeepsHeld, keeps_twice, held_retired, EndsBy, ends_retired, spans_by, spans_grown}
@@ -247,10 +247,6 @@ new_within l s claims plan was mid c sync x h = elim h [
       let n = (c.entries track.0 k.entry k.named).snug k.place in
       subst (λ (y : Extent). y.pos + y.size ≤ length mid) (sym k.is) (omega (arith, n, sync.near.no_shorter))
 ]
-
--- the list once all is settled and what leaves is retired
-abbrev pub committed_pieces : Stages → List Piece → List Piece
-committed_pieces s ps = map retired (settled_all (spaces_of s) ps)
 
 settled_of : (l : Layout) (s : Stages) (claims : List Extent) (plan : Plan) (was mid : List ℕ) → AreRising s → Current l s claims plan was → IsSynced l s was mid
     → AreSettled (IsInUse l s was) (IsReplaced l s was) (IsPlaced s claims) (spaces_of s) (length mid) plan.pieces (settled_all (spaces_of s) plan.pieces) plan.size

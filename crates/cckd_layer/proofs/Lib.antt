@@ -13,3 +13,4 @@ pub mod CommitLemmas
 pub mod SpaceLemmas
 pub mod SettledLemmas
 pub mod CommittedLemmas
+pub mod ActLemmas

@@ -33,10 +33,10 @@ at_in (y ∷ ys) x d h = elim h [
   | inr later ↦ let r = at_in ys x d later in (suc r.0, omega (arith, r.1), r.2)
 ]
 
-blank_entry : StagedEntry
+abbrev pub blank_entry : StagedEntry
 blank_entry = record { track = 0; entry = record { pos = 0; len = 0; size = 0 } }
 
-blank_word : StagedWord
+abbrev pub blank_word : StagedWord
 blank_word = record { group = 0; pos = 0 }
 
 -- what is staged is found by its track, and the other way round

@@ -77,3 +77,7 @@ word_spaces (s ∷ ss) = table_space s.group s.pos ∷ word_spaces ss
 -- the spaces that something staged names: those of entries, and then those of tables
 abbrev pub spaces_of : Stages → List Extent
 spaces_of s = entry_spaces s.entries ++ word_spaces s.words
+
+-- the pieces behind a commit: what something staged names is settled, and what leaves is retired
+abbrev pub committed_pieces : Stages → List Piece → List Piece
+committed_pieces s ps = map retired (settled_all (spaces_of s) ps)

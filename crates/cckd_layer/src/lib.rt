@@ -3,9 +3,13 @@
 
 mod laws;
 mod placing;
+mod settling;
+mod staging;
 
 pub use cckd_base::Layout;
 pub use cckd_shelf::Slot;
 pub use cckd_space::Space;
 pub use cckd_tables::{StagedEntry, StagedWord};
 pub use placing::{PutFault, put_bytes};
+pub use settling::settle_staged;
+pub use staging::{give_place_back, leave_place};
