@@ -14,3 +14,4 @@ pub mod SpaceLemmas
 pub mod SettledLemmas
 pub mod CommittedLemmas
 pub mod ActLemmas
+pub mod RemarkLemmas

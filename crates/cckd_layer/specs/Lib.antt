@@ -4,5 +4,6 @@ pub mod Current
 pub mod Changes
 pub mod Puts
 pub mod Acts
+pub mod Marks
 pub mod Stands
 pub mod Closed

@@ -2,6 +2,7 @@
 #![tactic(auto)]
 
 mod laws;
+mod marking;
 mod placing;
 mod settling;
 mod staging;
@@ -9,7 +10,8 @@ mod staging;
 pub use cckd_base::Layout;
 pub use cckd_shelf::Slot;
 pub use cckd_space::Space;
-pub use cckd_tables::{StagedEntry, StagedWord};
+pub use cckd_tables::{Device, StagedEntry, StagedWord};
+pub use marking::{put_second, second_header};
 pub use placing::{PutFault, put_bytes};
 pub use settling::settle_staged;
 pub use staging::{give_place_back, leave_place};
