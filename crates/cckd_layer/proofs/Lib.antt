@@ -15,3 +15,4 @@ pub mod SettledLemmas
 pub mod CommittedLemmas
 pub mod ActLemmas
 pub mod RemarkLemmas
+pub mod RemarkedLemmas
