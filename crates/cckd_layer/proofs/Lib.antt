@@ -16,3 +16,4 @@ pub mod CommittedLemmas
 pub mod ActLemmas
 pub mod RemarkLemmas
 pub mod RemarkedLemmas
+pub mod ChainLemmas

@@ -5,5 +5,6 @@ pub mod Changes
 pub mod Puts
 pub mod Acts
 pub mod Marks
+pub mod Chain
 pub mod Stands
 pub mod Closed

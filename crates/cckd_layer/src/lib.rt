@@ -1,6 +1,7 @@
 //! One image that is written: what holds of its file between calls, and the acts that keep it so.
 #![tactic(auto)]
 
+mod chaining;
 mod laws;
 mod marking;
 mod placing;
@@ -11,6 +12,7 @@ pub use cckd_base::Layout;
 pub use cckd_shelf::Slot;
 pub use cckd_space::Space;
 pub use cckd_tables::{Device, StagedEntry, StagedWord};
+pub use chaining::put_chain;
 pub use marking::{put_second, second_header};
 pub use placing::{PutFault, put_bytes};
 pub use settling::settle_staged;
