@@ -1,18 +1,28 @@
 //! One image that is written: what holds of its file between calls, and the acts that keep it so.
 #![tactic(auto)]
 
+mod chaining;
 mod counting;
 mod held;
 mod laws;
 mod layer;
+mod marking;
 mod mounting;
+mod placing;
 mod reading;
+mod settling;
+mod staging;
 #[cfg(test)]
 mod tests;
 
 pub use cckd_base::Layout;
 pub use cckd_shelf::Slot;
 pub use cckd_space::Space;
-pub use cckd_tables::{StagedEntry, StagedWord};
+pub use cckd_tables::{Device, StagedEntry, StagedWord};
+pub use chaining::put_chain;
 pub use held::Held;
 pub use layer::Layer;
+pub use marking::{put_second, second_header};
+pub use placing::{PutFault, put_bytes};
+pub use settling::settle_staged;
+pub use staging::{give_place_back, leave_place};
