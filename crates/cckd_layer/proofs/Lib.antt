@@ -17,3 +17,4 @@ pub mod ActLemmas
 pub mod RemarkLemmas
 pub mod RemarkedLemmas
 pub mod ChainLemmas
+pub mod CloseLemmas

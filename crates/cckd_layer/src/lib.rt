@@ -2,6 +2,7 @@
 #![tactic(auto)]
 
 mod chaining;
+mod closing;
 mod laws;
 mod marking;
 mod placing;
@@ -13,7 +14,8 @@ pub use cckd_shelf::Slot;
 pub use cckd_space::Space;
 pub use cckd_tables::{Device, StagedEntry, StagedWord};
 pub use chaining::put_chain;
-pub use marking::{put_second, second_header};
+pub use closing::close_image;
+pub use marking::{close_header, open_header, put_second, second_header};
 pub use placing::{PutFault, put_bytes};
 pub use settling::settle_staged;
 pub use staging::{give_place_back, leave_place};
