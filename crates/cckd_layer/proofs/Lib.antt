@@ -18,3 +18,4 @@ pub mod RemarkLemmas
 pub mod RemarkedLemmas
 pub mod ChainLemmas
 pub mod CloseLemmas
+pub mod ClosedLemmas

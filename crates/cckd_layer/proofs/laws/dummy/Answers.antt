@@ -10,6 +10,7 @@ use Rattle.cckd_layer.proofs.SpaceLemmas.{spaces_once}
 use Rattle.cckd_layer.proofs.SettledLemmas.{all_settled}
 use Rattle.cckd_layer.proofs.CommittedLemmas.{commit_keeps}
 use Rattle.cckd_layer.proofs.RemarkedLemmas.{stands_marked}
+use Rattle.cckd_layer.proofs.ClosedLemmas.{stands_closed}
 use Rattle.cckd_layer.proofs.laws.dummy.Goals as goal
 
 pub returns : goal.returns
