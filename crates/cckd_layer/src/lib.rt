@@ -15,6 +15,7 @@ pub use cckd_space::Space;
 pub use cckd_tables::{Device, StagedEntry, StagedWord};
 pub use chaining::put_chain;
 pub use closing::close_image;
+pub use laws::{commits_stand, puts_stand, releases_stand};
 pub use marking::{close_header, open_header, put_second, second_header};
 pub use placing::{PutFault, put_bytes};
 pub use settling::settle_staged;
