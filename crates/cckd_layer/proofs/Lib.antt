@@ -19,3 +19,10 @@ pub mod RemarkedLemmas
 pub mod ChainLemmas
 pub mod CloseLemmas
 pub mod ClosedLemmas
+pub mod ReadLemmas
+pub mod PieceLemmas
+pub mod MountLemmas
+pub mod RoleLemmas
+pub mod FoundLemmas
+pub mod OpenLemmas
+pub mod CountLemmas

@@ -8,3 +8,5 @@ pub mod Marks
 pub mod Chain
 pub mod Stands
 pub mod Closed
+pub mod Reads
+pub mod Mounted

@@ -17,3 +17,9 @@ pub mod EntryLoopLemmas
 pub mod EntryRunLemmas
 pub mod PutRunLemmas
 pub mod CommitLemmas
+pub mod PlacedLemmas
+pub mod StageLemmas
+pub mod NumberedLemmas
+pub mod CacheLemmas
+pub mod TablesLemmas
+pub mod LookLemmas

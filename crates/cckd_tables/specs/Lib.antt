@@ -1,9 +1,12 @@
 pub mod Blend
 pub mod Cells
+pub mod Cached
 pub mod Commit
 pub mod Device
 pub mod Inside
 pub mod Kept
+pub mod Looking
 pub mod Scan
+pub mod Stages
 pub mod Staging
 pub mod Tables

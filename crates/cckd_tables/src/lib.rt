@@ -3,6 +3,7 @@
 
 mod cell;
 mod commit;
+mod cache;
 mod device;
 mod entries;
 mod item;
@@ -10,13 +11,17 @@ mod kept;
 mod progress;
 mod read;
 mod staged;
+mod stages;
 mod surveyed;
 mod table;
+mod tables;
 #[cfg(test)]
 mod tests;
+mod words;
 
 pub use cckd_base::{Extent, Layout, Misfit, Owner, ScanFault};
 pub use commit::Commit;
 pub use device::Device;
 pub use staged::{StagedEntry, StagedWord};
 pub use surveyed::{SurveyFault, Surveyed, scan, survey};
+pub use tables::Tables;

@@ -33,7 +33,7 @@ pub(crate) struct Progress {
 }
 
 /// The level-one word of a group.
-fn word_in(l: &Layout, words: &[u8], group: u32) -> u32
+pub(crate) fn word_in(l: &Layout, words: &[u8], group: u32) -> u32
     requires { 4 * group + 4 ≤ length words.now }
     ensures { result ≡ number_at l.now.order w32 words.now (4 * group) }
 {
