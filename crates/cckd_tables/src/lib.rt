@@ -1,15 +1,17 @@
 //! The two-level tables of one image: the survey of all that they name.
 #![tactic(auto)]
 
+mod cache;
 mod cell;
 mod commit;
-mod cache;
 mod device;
 mod entries;
 mod item;
 mod kept;
+mod making;
 mod progress;
 mod read;
+mod settling;
 mod staged;
 mod stages;
 mod surveyed;
