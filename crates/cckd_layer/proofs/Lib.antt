@@ -2,13 +2,6 @@ pub mod AccountLemmas
 pub mod SpanLemmas
 pub mod HeadLemmas
 pub mod FillLemmas
-pub mod ReadLemmas
-pub mod PieceLemmas
-pub mod MountLemmas
-pub mod RoleLemmas
-pub mod FoundLemmas
-pub mod OpenLemmas
-pub mod CountLemmas
 pub mod PutLemmas
 pub mod CurrentLemmas
 pub mod StandLemmas
@@ -24,3 +17,12 @@ pub mod ActLemmas
 pub mod RemarkLemmas
 pub mod RemarkedLemmas
 pub mod ChainLemmas
+pub mod CloseLemmas
+pub mod ClosedLemmas
+pub mod ReadLemmas
+pub mod PieceLemmas
+pub mod MountLemmas
+pub mod RoleLemmas
+pub mod FoundLemmas
+pub mod OpenLemmas
+pub mod CountLemmas
