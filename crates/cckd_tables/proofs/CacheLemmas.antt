@@ -1,5 +1,5 @@
 -- The cached tables as entries of a list by recency.
-use Rattle.std.proofs.Common.{◌≡◌, ◌≢◌, ◌⊎◌, inl, inr, ℕ, zero, suc, ◌+◌, ◌-◌, ◌<◌, ◌≤◌, ◌==◌, true, false, cond, List, [], ◌∷◌, ◌++◌, length, map, take, Option, Some, None, IsNone, IsSome, IfSome, refl, sym, ◌∙◌, ap, subst, arith}
+use Rattle.std.proofs.Common.{◌≡◌, inl, inr, ℕ, zero, suc, ◌-◌, ◌≤◌, true, false, List, [], ◌∷◌, length, map, take, Option, Some, None, IsSome, IfSome, refl, sym, ◌∙◌, ap, subst, arith}
 use Rattle.std.specs.List.{AllByRecursion, IsDistinct}
 use Rattle.std.specs.Bool.{nat_eq}
 use Rattle.std.specs.Option.{option_map, is_some}
@@ -7,7 +7,7 @@ use Rattle.std.proofs.lemmas.Bool.Decides.{eqb_tells}
 use Rattle.cckd_frames.specs.Frames.{Entry, Kept, IsKept, frames, entry_of, entry_in, frame_of, without, IsUsed, promoted, holding, with_entries}
 use Rattle.cckd_frames.proofs.CallerLemmas.{key_of_entry}
 use Rattle.cckd_tables.specs.Tables.{CachedTable}
-use Rattle.cckd_tables.specs.Cached.{table_of, IsCached, tables_but, used_first, UsesTable, KeepsCached, tables_in, IsCache}
+use Rattle.cckd_tables.specs.Cached.{table_of, IsCached, tables_but, UsesTable, tables_in, IsCache}
 
 -- an entry as a table
 abbrev pub table_in : Entry → CachedTable

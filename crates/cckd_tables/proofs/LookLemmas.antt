@@ -1,5 +1,5 @@
 -- What is read of a file, against what the file has: words, tables and entries.
-use Rattle.std.proofs.Common.{◌≡◌, ◌≢◌, ◌⊎◌, inl, inr, ℕ, zero, suc, ◌+◌, ◌-◌, ◌*◌, ◌/◌, ◌%◌, ◌<◌, ◌≤◌, ◌==◌, true, false, cond, List, [], ◌∷◌, length, take, slice_index, Option, Some, None, IsNone, IsSome, Result, Ok, Err, OnOk, OnErr, IfOk, refl, sym, ◌∙◌, ap, subst, arith}
+use Rattle.std.proofs.Common.{◌≡◌, ◌≢◌, ◌⊎◌, inl, inr, ℕ, zero, suc, ◌*◌, ◌/◌, ◌%◌, ◌<◌, ◌≤◌, List, [], ◌∷◌, length, take, slice_index, Option, Some, None, IsNone, IsSome, Result, Ok, Err, OnOk, OnErr, IfOk, refl, sym, ◌∙◌, ap, subst, arith}
 use Rattle.std.specs.List.{AllByRecursion}
 use Rattle.std.specs.Option.{unwrap_or}
 use Rattle.std.specs.Int.{w32}
@@ -12,9 +12,9 @@ use Rattle.cckd_base.specs.Image.{IsPlace}
 use Rattle.cckd_base.specs.Geometry.{track_count, IsLayout}
 use Rattle.cckd_tables.specs.declared.device.Device.{Device}
 use Rattle.cckd_tables.specs.Staging.{entry_for, new_entry}
-use Rattle.cckd_tables.specs.Tables.{CachedTable, TableView, HasWords, HasTables, IsCachedOf, AreOf}
-use Rattle.cckd_tables.specs.Cached.{table_of, IsCached, tables_but, used_first, UsesTable, KeepsCached}
-use Rattle.cckd_tables.specs.Looking.{IsTables, with_cached}
+use Rattle.cckd_tables.specs.Tables.{CachedTable, TableView, HasWords, IsCachedOf, AreOf}
+use Rattle.cckd_tables.specs.Cached.{table_of, IsCached, tables_but, UsesTable, KeepsCached}
+use Rattle.cckd_tables.specs.Looking.{with_cached}
 use Rattle.cckd_tables.proofs.FileLemmas.{part_of_part}
 
 pub words_read : (l : Layout) (file bytes words : List ℕ) (at n : ℕ) → bytes ≡ bytes_at file at n → at ≡ 1024 → n ≡ 4 * l.groups

@@ -1,15 +1,14 @@
 -- What staged words and entries make of words and cached tables.
-use Rattle.std.proofs.Common.{◌≡◌, ◌≢◌, ◌⊎◌, inl, inr, ℕ, zero, suc, ◌+◌, ◌-◌, ◌*◌, ◌/◌, ◌%◌, ◌<◌, ◌≤◌, ◌==◌, true, false, cond, List, [], ◌∷◌, ◌++◌, length, map, take, drop, get_or, slice_index, slice_set, Option, Some, None, unwrap_or, refl, sym, ◌∙◌, ap, subst, arith}
+use Rattle.std.proofs.Common.{◌≡◌, ◌≢◌, ◌⊎◌, inl, inr, ℕ, ◌+◌, ◌*◌, ◌/◌, ◌%◌, ◌<◌, true, false, List, [], ◌∷◌, ◌++◌, length, map, take, get_or, Some, None, refl, sym, ◌∙◌, ap, subst, arith}
 use Rattle.std.specs.List.{AllByRecursion, IsDistinct}
 use Rattle.std.specs.List.Sorted.{IsStrictlyIncreasing}
 use Rattle.std.specs.Bool.{nat_eq}
 use Rattle.std.proofs.lemmas.Bool.Decides.{eqb_tells}
 use Rattle.std.proofs.lemmas.List.{take_all, drop_all}
 use Rattle.cckd_base.specs.declared.order.Order.{Order}
-use Rattle.cckd_frames.specs.Frames.{Entry, Kept, IsKept, entry_of, frame_of, frames, keys, changed, refilled, with_entries, with_writes}
+use Rattle.cckd_frames.specs.Frames.{Entry, Kept, entry_of, frame_of, frames, keys, refilled, with_entries, with_writes}
 use Rattle.cckd_frames.proofs.CallerLemmas.{kept_written}
 use Rattle.cckd_tables.specs.declared.staged.StagedEntry.{StagedEntry}
-use Rattle.cckd_tables.specs.declared.staged.StagedWord.{StagedWord}
 use Rattle.cckd_tables.specs.Tables.{CachedTable}
 use Rattle.cckd_tables.specs.Cached.{IsCache, tables_in}
 use Rattle.cckd_tables.specs.Commit.{staged_tracks}
