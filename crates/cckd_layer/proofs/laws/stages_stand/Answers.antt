@@ -1,4 +1,4 @@
-use Rattle.cckd_layer.proofs.StagedLemmas.{Takes, stands_staged, stands_again, stands_again_none, stands_word}
+use Rattle.cckd_layer.proofs.StagedLemmas.{stands_staged, stands_again, stands_again_none, stands_word}
 use Rattle.cckd_layer.proofs.laws.stages_stand.Goals as goal
 
 pub returns : goal.returns
