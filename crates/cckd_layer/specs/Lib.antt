@@ -1,0 +1,12 @@
+pub mod Held
+pub mod Sits
+pub mod Current
+pub mod Changes
+pub mod Puts
+pub mod Acts
+pub mod Marks
+pub mod Chain
+pub mod Stands
+pub mod Closed
+pub mod Reads
+pub mod Mounted
