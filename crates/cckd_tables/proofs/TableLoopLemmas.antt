@@ -84,7 +84,7 @@ file_then slot position bytes mid new one told = now_wrote slot position bytes m
 -- ---- new tables
 
 pub near_self : (stages : Stages) (was : List ℕ) → Near stages was was
-near_self stages was = record { outside = λ i low beside. refl; no_shorter = omega arith }
+near_self stages was = record { outside = λ i low beside. refl; no_shorter = omega arith; no_longer = λ n low all. low }
 
 -- a new table that is written in whole, in part or not
 pub near_left : (stages : Stages) (i : ℕ) (d : StagedWord) (table was old file : List ℕ) → i < length stages.words → length table ≡ 2048 → Near stages was old
@@ -96,6 +96,10 @@ near_left stages i d table was old file low long near leaves = record {
         | inr h ↦ leaves.behind k (omega (arith, inside, near.no_shorter)) (omega (arith, h, long))
       ] ∙ near.outside k inside beside;
   no_shorter = omega (arith, near.no_shorter, leaves.no_shorter);
+  no_longer = λ n least all.
+      let k = near.no_longer n least all in
+      let e = all_at (λ (s : StagedWord). s.pos + 2048 ≤ n) stages.words i d all low in
+      omega (arith, k, e, long, leaves.no_longer);
 }
 
 place_at : (words : List StagedWord) (i : ℕ) (d : StagedWord) → i < length words → slice_index (staged_places words) i ≡ (get_or words i d).pos
