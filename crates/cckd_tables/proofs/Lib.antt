@@ -31,3 +31,4 @@ pub mod MakingLemmas
 pub mod SettleLemmas
 pub mod PlacesLemmas
 pub mod CommittedLemmas
+pub mod CallerLemmas

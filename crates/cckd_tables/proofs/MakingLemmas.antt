@@ -14,7 +14,8 @@ use Rattle.cckd_tables.specs.Making.{AddsTable, AreMade}
 use Rattle.cckd_tables.specs.Tables.{TableView, AreOf, IsCachedOf}
 use Rattle.cckd_tables.specs.Cached.{table_of}
 use Rattle.cckd_tables.specs.Cells.{entry_among}
-use Rattle.cckd_tables.proofs.LookLemmas.{cached_has, entry_read, word_gives_table}
+use Rattle.cckd_tables.proofs.LookLemmas.{cached_has, word_gives_table}
+use Rattle.cckd_tables.proofs.TableLemmas.{entry_read}
 
 -- a table that has the entries in the file's table has those that the file gives
 pub old_entry : (v : TableView) (file : List ℕ) (g word t : ℕ) (e : L2Entry) → AreOf v file → g < v.layout.groups → word ≡ slice_index v.words g → IsPlace word → t / 256 ≡ g

@@ -16,6 +16,8 @@ mod staged;
 mod stages;
 mod surveyed;
 mod table;
+#[cfg(test)]
+mod table_tests;
 mod tables;
 #[cfg(test)]
 mod tests;
