@@ -13,3 +13,6 @@ pub mod SpareLemmas
 pub mod SameLemmas
 pub mod SettleLemmas
 pub mod UsedLemmas
+pub mod BlockMarkLemmas
+pub mod BlockLemmas
+pub mod OrderLemmas

@@ -114,13 +114,13 @@ pub(crate) fn open_index(pieces: &[Piece], solid: usize) -> usize
     at
 }
 
-fn first_room(pieces: &[Piece], need: u32) -> Option<usize>
+pub(crate) fn first_room(pieces: &[Piece], need: u32) -> Option<usize>
     ensures { result ≡ position (has_room need) pieces.now }
 {
     pieces.iter().position(|p| p.has_room(need))
 }
 
-fn first_room_below(pieces: &[Piece], need: u32, before: u32) -> Option<usize>
+pub(crate) fn first_room_below(pieces: &[Piece], need: u32, before: u32) -> Option<usize>
     ensures { result ≡ position (has_room_below need before) pieces.now }
 {
     pieces.iter().position(|p| p.has_room_below(need, before))

@@ -3,6 +3,7 @@
 
 #[cfg(test)]
 mod beside;
+mod blocks;
 mod editing;
 mod finding;
 mod making;

@@ -1,0 +1,273 @@
+-- Where a piece that begins at a place stands among blocks in order.
+use Rattle.std.proofs.Common.{◌≡◌, ◌⊎◌, ℕ, zero, suc, ◌+◌, ◌-◌, ◌<◌, ◌≤◌, Bool, true, false, List, [], ◌∷◌, ◌++◌, length, take, drop, get_or, slice_set, Option, Some, None, IsSome, refl, sym, ◌∙◌, ap, subst, inl, inr, arith, add-one}
+use Rattle.std.proofs.lemmas.Bool.{cases_lt, cond_both, false_from_ne_true, le-leb, lt-leb}
+use Rattle.std.proofs.lemmas.List.{get_or_read}
+use Rattle.std.specs.Option.{option_or}
+use Rattle.std.specs.Prelude.{if◌then◌else◌}
+use Rattle.cckd_space.specs.declared.piece.Piece.{Piece}
+use Rattle.cckd_space.specs.Pieces.{Has, begins_by, first, last, replaced, IsLaid}
+use Rattle.cckd_space.specs.Inside.{IsInOrder}
+use Rattle.cckd_space.specs.Blocks.{block_at, whole, AreFilled, AreInOrder, first_pos, StandsIn, IsFoundIn}
+use Rattle.cckd_space.proofs.CallerLemmas.{laid_has}
+use Rattle.cckd_space.proofs.BlockLemmas.{whole_at, first_in, first_behind, replaced_in}
+
+pub has_left : (p : Piece) (xs ys : List Piece) → Has p xs → Has p (xs ++ ys)
+has_left p [] ys h = absurd h
+has_left p (x ∷ xs) ys h = elim h [ inl e ↦ inl e | inr m ↦ inr (has_left p xs ys m) ]
+
+pub has_right : (p : Piece) (xs ys : List Piece) → Has p ys → Has p (xs ++ ys)
+has_right p [] ys h = h
+has_right p (x ∷ xs) ys h = inr (has_right p xs ys h)
+
+pub has_index : (ps : List Piece) (i : ℕ) (d : Piece) → i < length ps → Has (get_or ps i d) ps
+has_index [] i d l = absurd (omega arith)
+has_index (q ∷ qs) zero d l = inl refl
+has_index (q ∷ qs) (suc i) d l = inr (has_index qs i d (omega arith))
+
+-- the pieces of a file are in order
+pub laid_in_order : (at : ℕ) (ps : List Piece) (end : ℕ) → IsLaid at ps end → AreInOrder ps
+laid_in_order at [] end l = tt
+laid_in_order at (p ∷ ps) end l = (λ q h. let r = laid_has (at + p.size) ps end q l.2 h in omega (arith, r, l.0.place, l.0.some), laid_in_order (at + p.size) ps end l.2)
+
+-- the same by indices
+pub order_by_index : (ps : List Piece) → AreInOrder ps → IsInOrder ps
+order_by_index ps o = record { each = λ i j d l m. rises ps o i j d l m }
+  where
+    rises : (xs : List Piece) → AreInOrder xs → (i j : ℕ) (d : Piece) → i < j → j < length xs → (get_or xs i d).pos < (get_or xs j d).pos
+    rises [] o i j d l m = absurd (omega arith)
+    rises (x ∷ xs) o i zero d l m = absurd (omega arith)
+    rises (x ∷ xs) o zero (suc j) d l m = o.0 (get_or xs j d) (has_index xs j d (omega arith))
+    rises (x ∷ xs) o (suc i) (suc j) d l m = rises xs o.1 i j d (omega arith) (omega arith)
+
+-- the parts of a list in order are in order, and all of the first begins before all of the second
+pub order_front : (xs ys : List Piece) → AreInOrder (xs ++ ys) → AreInOrder xs
+order_front [] ys o = tt
+order_front (x ∷ xs) ys o = (λ q h. o.0 q (has_left q xs ys h), order_front xs ys o.1)
+
+pub order_rest : (xs ys : List Piece) → AreInOrder (xs ++ ys) → AreInOrder ys
+order_rest [] ys o = o
+order_rest (x ∷ xs) ys o = order_rest xs ys o.1
+
+pub order_across : (xs ys : List Piece) (p q : Piece) → AreInOrder (xs ++ ys) → Has p xs → Has q ys → p.pos < q.pos
+order_across [] ys p q o h k = absurd h
+order_across (x ∷ xs) ys p q o h k = elim h [
+  | inl e ↦ let l = o.0 q (has_right q xs ys k) in let s = ap (λ (r : Piece). r.pos) e in omega (arith, l, s)
+  | inr m ↦ order_across xs ys p q o.1 m k
+]
+
+-- one block of blocks in order
+pub order_block : (bs : List (List Piece)) (i : ℕ) → i < length bs → AreInOrder (whole bs) → AreInOrder (block_at bs i)
+order_block bs i l o =
+    order_front (block_at bs i) (whole (drop (suc i) bs))
+    (order_rest (whole (take i bs)) (block_at bs i ++ whole (drop (suc i) bs)) (subst AreInOrder (whole_at bs i l) o))
+
+-- a piece that begins a block begins before the other pieces from there on
+first_first : (xs : List Piece) (p : Piece) → AreInOrder xs → Has p xs → first_pos xs ≤ p.pos
+first_first [] p o h = absurd h
+first_first (x ∷ xs) p o h = elim h [
+  | inl e ↦ let s = ap (λ (r : Piece). r.pos) e in omega (arith, s)
+  | inr m ↦ let l = o.0 p m in omega (arith, l)
+]
+
+first_has_pos : (xs : List Piece) → 0 < length xs → (p : Piece) × Has p xs × (p.pos ≡ first_pos xs)
+first_has_pos [] l = absurd (omega arith)
+first_has_pos (x ∷ xs) l = (x, inl refl, refl)
+
+first_pos_append : (xs ys : List Piece) → 0 < length xs → first_pos (xs ++ ys) ≡ first_pos xs
+first_pos_append [] ys l = absurd (omega arith)
+first_pos_append (x ∷ xs) ys l = refl
+
+filled_at : (bs : List (List Piece)) (i : ℕ) (d : List Piece) → AreFilled bs → i < length bs → 0 < length (get_or bs i d)
+filled_at [] i d f l = absurd (omega arith)
+filled_at (b ∷ bs) zero d f l = f.0
+filled_at (b ∷ bs) (suc i) d f l = filled_at bs i d f.1 (omega arith)
+
+has_block : (bs : List (List Piece)) (i : ℕ) (d : List Piece) (p : Piece) → i < length bs → Has p (get_or bs i d) → Has p (whole bs)
+has_block [] i d p l h = absurd (omega arith)
+has_block (b ∷ bs) zero d p l h = has_left p b (whole bs) h
+has_block (b ∷ bs) (suc i) d p l h = has_right p b (whole bs) (has_block bs i d p (omega arith) h)
+
+-- blocks in order begin in order
+pub first_rises : (bs : List (List Piece)) (i j : ℕ) (d : List Piece) → AreFilled bs → AreInOrder (whole bs) → i ≤ j → j < length bs → first_pos (get_or bs i d) ≤ first_pos (get_or bs j d)
+first_rises [] i j d f o l m = absurd (omega arith)
+first_rises (b ∷ bs) zero zero d f o l m = omega arith
+first_rises (b ∷ bs) (suc i) zero d f o l m = absurd (omega arith)
+first_rises (b ∷ bs) zero (suc j) d f o l m =
+    let p = first_has_pos b f.0 in
+    let q = first_has_pos (get_or bs j d) (filled_at bs j d f.1 (omega arith)) in
+    let r = order_across b (whole bs) p.0 q.0 o p.1 (has_block bs j d q.0 (omega arith) q.1) in
+    omega (arith, r, p.2, q.2)
+first_rises (b ∷ bs) (suc i) (suc j) d f o l m = first_rises bs i j d f.1 (order_rest b (whole bs) o) (omega arith) (omega arith)
+
+-- the blocks from an index on
+split_whole : (bs : List (List Piece)) (i : ℕ) → whole bs ≡ whole (take i bs) ++ whole (drop i bs)
+split_whole [] zero = refl
+split_whole [] (suc i) = refl
+split_whole (b ∷ bs) zero = refl
+split_whole (b ∷ bs) (suc i) = ap (λ (l : List Piece). b ++ l) (split_whole bs i) ∙ assoc b (whole (take i bs)) (whole (drop i bs))
+  where
+    assoc : (xs ys zs : List Piece) → xs ++ (ys ++ zs) ≡ (xs ++ ys) ++ zs
+    assoc [] ys zs = refl
+    assoc (x ∷ xs) ys zs = ap (λ (l : List Piece). x ∷ l) (assoc xs ys zs)
+
+first_of_rest : (bs : List (List Piece)) (i : ℕ) → AreFilled bs → i < length bs → first_pos (whole (drop i bs)) ≡ first_pos (block_at bs i)
+first_of_rest [] i f l = absurd (omega arith)
+first_of_rest (b ∷ bs) zero f l = first_pos_append b (whole bs) f.0
+first_of_rest (b ∷ bs) (suc i) f l = first_of_rest bs i f.1 (omega arith)
+
+none_past : (bs : List (List Piece)) (i : ℕ) (p : Piece) → length bs ≤ i → Has p (whole (drop i bs)) → ⊥
+none_past [] zero p l h = h
+none_past [] (suc i) p l h = h
+none_past (b ∷ bs) zero p l h = omega arith
+none_past (b ∷ bs) (suc i) p l h = none_past bs i p (omega arith) h
+
+-- the block of a place, from how many blocks begin at or before it
+pub stands_in : (pos : ℕ) (bs : List (List Piece)) (n at : ℕ) → AreFilled bs → AreInOrder (whole bs) → 0 < length bs → n ≤ length bs → at ≡ n - 1
+    → ((k : ℕ) → k < n → first_pos (block_at bs k) ≤ pos) → ((k : ℕ) → n ≤ k → k < length bs → pos < first_pos (block_at bs k)) → StandsIn pos bs at
+stands_in pos bs n at f o some w e low high = record {
+  within = omega arith;
+  before = λ p h. elim (cases_lt 0 n) [
+    | inl l ↦
+        let q = first_has_pos (block_at bs at) (filled_at bs at [] f (omega arith)) in
+        let parts = subst AreInOrder (whole_at bs at (omega arith)) o in
+        let r = order_across (whole (take at bs)) (block_at bs at ++ whole (drop (suc at) bs)) p q.0 parts h (has_left q.0 (block_at bs at) (whole (drop (suc at) bs)) q.1) in
+        let b = low at (omega arith) in
+        omega (arith, r, b, q.2)
+    | inr z ↦ absurd (let s : at ≡ 0 = omega arith in let g : Has p (whole (take 0 bs)) = subst (λ (k : ℕ). Has p (whole (take k bs))) s h in g)
+  ];
+  behind = λ p h. elim (cases_lt (at + 1) (length bs)) [
+    | inl l ↦
+        let a = first_of_rest bs (at + 1) f l in
+        let b = high (at + 1) (omega arith) l in
+        let c = first_first (whole (drop (at + 1) bs)) p (order_rest (whole (take (at + 1) bs)) (whole (drop (at + 1) bs)) (subst AreInOrder (split_whole bs (at + 1)) o)) h in
+        omega (arith, a, b, c)
+    | inr ge ↦ absurd (none_past bs (at + 1) p ge h)
+  ];
+}
+
+-- A test that only a piece at the place passes.
+
+none_has : (test : Piece → Bool) (xs : List Piece) → ((p : Piece) → Has p xs → test p ≡ false) → first test xs ≡ None
+none_has test [] h = refl
+none_has test (x ∷ xs) h = rw (h x (inl refl)) (none_has test xs (λ p k. h p (inr k)))
+
+module _ (test : Piece → Bool) (pos : ℕ) (only : (p : Piece) → test p ≡ true → p.pos ≡ pos) where
+  none_before : (bs : List (List Piece)) (at : ℕ) → StandsIn pos bs at → first test (whole (take at bs)) ≡ None
+  none_before bs at s = none_has test (whole (take at bs)) (λ p h. false_from_ne_true (test p) (λ e. let l = s.before p h in omega (arith, l, only p e)))
+
+  none_behind : (bs : List (List Piece)) (at : ℕ) → StandsIn pos bs at → first test (whole (drop (at + 1) bs)) ≡ None
+  none_behind bs at s = none_has test (whole (drop (at + 1) bs)) (λ p h. false_from_ne_true (test p) (λ e. let l = s.behind p h in omega (arith, l, only p e)))
+
+  first_alone : (xs ys : List Piece) → first test ys ≡ None → first test (xs ++ ys) ≡ first test xs
+  first_alone [] ys e = e
+  first_alone (x ∷ xs) ys e = by (test x) refl (first_alone xs ys e)
+    where
+      by : (b : Bool) → test x ≡ b → first test (xs ++ ys) ≡ first test xs → first test (x ∷ xs ++ ys) ≡ first test (x ∷ xs)
+      by true f more = rw f refl
+      by false f more = rw f more
+
+  -- is looked for in its block alone
+  pub first_stands : (bs : List (List Piece)) (at : ℕ) → StandsIn pos bs at → first test (whole bs) ≡ first test (block_at bs at)
+  first_stands bs at s =
+      let rest = whole (drop (suc at) bs) in
+      ap (first test) (whole_at bs at s.within)
+      ∙ (first_behind test (whole (take at bs)) (block_at bs at ++ rest) (none_before bs at s)
+        ∙ first_alone (block_at bs at) rest (subst (λ (k : ℕ). first test (whole (drop k bs)) ≡ None) (add-one at) (none_behind bs at s)))
+
+  pub found_stands : (bs : List (List Piece)) (at : ℕ) → StandsIn pos bs at → IsSome (first test (whole bs)) → IsFoundIn test bs at
+  found_stands bs at s there = record {
+    within = s.within;
+    before = none_before bs at s;
+    here = subst (λ (o : Option Piece). IsSome o) (first_stands bs at s) there;
+  }
+
+-- none is found where there is no block
+pub nothing_found : (test : Piece → Bool) (bs : List (List Piece)) → length bs ≡ 0 → first test (whole bs) ≡ None
+nothing_found test [] e = refl
+nothing_found test (b ∷ bs) e = absurd (omega (arith, e))
+
+pub some_block : (test : Piece → Bool) (bs : List (List Piece)) → IsSome (first test (whole bs)) → 0 < length bs
+some_block test [] h = absurd (let g : false ≡ true = h in cc)
+some_block test (b ∷ bs) h = omega arith
+
+swapped_len : (test : Piece → Bool) (f : Piece → Piece) (xs : List Piece) → length (replaced test (λ p. f p ∷ []) xs) ≡ length xs
+swapped_len test f [] = refl
+swapped_len test f (x ∷ xs) =
+    cond_both (test x) (f x ∷ xs) (x ∷ replaced test (λ p. f p ∷ []) xs) (λ (l : List Piece). length l ≡ suc (length xs))
+    (λ e. refl) (λ e. ap suc (swapped_len test f xs))
+
+-- an edit that leaves a block as long as it was keeps all filled
+pub filled_set : (bs : List (List Piece)) (i : ℕ) (b : List Piece) → 0 < length b → AreFilled bs → AreFilled (slice_set bs i b)
+filled_set [] i b l f = tt
+filled_set (x ∷ xs) zero b l f = (l, f.1)
+filled_set (x ∷ xs) (suc i) b l f = (f.0, filled_set xs i b l f.1)
+
+pub filled_swapped : (test : Piece → Bool) (f : Piece → Piece) (bs : List (List Piece)) (i : ℕ) → i < length bs → AreFilled bs → AreFilled (slice_set bs i (replaced test (λ p. f p ∷ []) (block_at bs i)))
+filled_swapped test f bs i l h =
+    let n = swapped_len test f (block_at bs i) in
+    let some = filled_at bs i [] h l in
+    filled_set bs i (replaced test (λ p. f p ∷ []) (block_at bs i)) (omega (arith, n, some)) h
+
+-- a block that was read is the one at its index
+pub read_at : (bs : List (List Piece)) (i : ℕ) (b : List Piece) → i < length bs → b ≡ get_or bs i b → get_or bs i b ≡ block_at bs i
+read_at bs i b l e = sym e ∙ get_or_read bs i b l e []
+
+-- The last piece that passes a test.
+
+module _ (test : Piece → Bool) where
+  last_before : (xs ys : List Piece) → last test ys ≡ None → last test (xs ++ ys) ≡ last test xs
+  last_before [] ys e = e
+  last_before (x ∷ xs) ys e = ap (λ (o : Option Piece). option_or o (if test x then Some x else None)) (last_before xs ys e)
+
+  some_over : (o : Option Piece) (r : Option Piece) → IsSome o → option_or o r ≡ o
+  some_over None r h = absurd (let g : false ≡ true = h in cc)
+  some_over (Some p) r h = refl
+
+  last_behind : (xs ys : List Piece) → IsSome (last test ys) → last test (xs ++ ys) ≡ last test ys
+  last_behind [] ys h = refl
+  last_behind (x ∷ xs) ys h =
+      ap (λ (o : Option Piece). option_or o (if test x then Some x else None)) (last_behind xs ys h)
+      ∙ some_over (last test ys) (if test x then Some x else None) h
+
+  none_last : (xs : List Piece) → ((p : Piece) → Has p xs → test p ≡ false) → last test xs ≡ None
+  none_last [] h = refl
+  none_last (x ∷ xs) h = rw (none_last xs (λ p k. h p (inr k)), h x (inl refl)) refl
+
+  some_last : (xs : List Piece) (p : Piece) → Has p xs → test p ≡ true → IsSome (last test xs)
+  some_last [] p h e = absurd h
+  some_last (x ∷ xs) p h e = by (λ later. some_last xs p later e) (last test xs) refl
+    where
+      by : (Has p xs → IsSome (last test xs)) → (o : Option Piece) → last test xs ≡ o → IsSome (option_or (last test xs) (if test x then Some x else None))
+      by more (Some q) f = rw f refl
+      by more None f = rw f (elim h [
+        | inl same ↦ let t : test x ≡ true = ap test same ∙ e in rw t refl
+        | inr later ↦ absurd (let g : IsSome (last test xs) = more later in let k : false ≡ true = rw f at g in cc)
+      ])
+
+-- the last piece that begins at or before a place is in the block of the place
+pub last_stands : (pos : ℕ) (bs : List (List Piece)) (n : ℕ) → AreFilled bs → AreInOrder (whole bs) → n ≤ length bs → 0 < n
+    → ((k : ℕ) → k < n → first_pos (block_at bs k) ≤ pos) → ((k : ℕ) → n ≤ k → k < length bs → pos < first_pos (block_at bs k)) → last (begins_by pos) (whole bs) ≡ last (begins_by pos) (block_at bs (n - 1))
+last_stands pos bs n f o w some low high =
+    let at = n - 1 in
+    let s = stands_in pos bs n at f o (omega (arith, w, some)) w refl low high in
+    let b = block_at bs at in
+    let rest = whole (drop (suc at) bs) in
+    let q = first_has_pos b (filled_at bs at [] f s.within) in
+    let l = low at (omega arith) in
+    let here = some_last (begins_by pos) b q.0 q.1 (le-leb q.0.pos pos (omega (arith, l, q.2))) in
+    let past = none_last (begins_by pos) rest (λ p h.
+        let g : Has p (whole (drop (at + 1) bs)) = subst (λ (k : ℕ). Has p (whole (drop k bs))) (sym (add-one at)) h in
+        let a = s.behind p g in
+        lt-leb p.pos pos a) in
+    let alone = last_before (begins_by pos) b rest past in
+    ap (last (begins_by pos)) (whole_at bs at s.within)
+    ∙ (last_behind (begins_by pos) (whole (take at bs)) (b ++ rest) (subst (λ (x : Option Piece). IsSome x) (sym alone) here) ∙ alone)
+
+-- and there is none where no block begins so early
+pub none_stands : (pos : ℕ) (bs : List (List Piece)) → AreFilled bs → AreInOrder (whole bs) → ((k : ℕ) → k < length bs → pos < first_pos (block_at bs k)) → last (begins_by pos) (whole bs) ≡ None
+none_stands pos [] f o high = refl
+none_stands pos (b ∷ bs) f o high = none_last (begins_by pos) (b ++ whole bs) (λ p h.
+    let a = high 0 (omega arith) in
+    let c = first_first (b ++ whole bs) p o h in
+    let e = first_pos_append b (whole bs) f.0 in
+    lt-leb p.pos pos (omega (arith, a, c, e)))

@@ -1,0 +1,97 @@
+-- The pieces of a file as blocks side by side.
+use Rattle.std.specs.Prelude.{◌≡◌, ℕ, ◌+◌, ◌<◌, ◌≤◌, nat_le, ◌&&◌, Bool, false, List, [], ◌∷◌, ◌++◌, length, take, drop, slice_set, slice_index_or, None, IsSome}
+use Rattle.cckd_space.specs.declared.piece.Piece.{Piece}
+use Rattle.cckd_space.specs.Pieces.{Has, first, largest, counted, is_free, is_leaving, is_pending, free_piece}
+use Rattle.cckd_space.specs.Inside.{AreMerged}
+
+-- the block at an index
+abbrev pub block_at : List (List Piece) → ℕ → List Piece
+block_at bs i = slice_index_or bs i []
+
+-- the blocks joined
+abbrev pub whole : List (List Piece) → List Piece
+whole [] = []
+whole (b ∷ bs) = b ++ whole bs
+
+-- the first piece that passes a test is in the block at this index
+pub record IsFoundIn (test : Piece → Bool) (bs : List (List Piece)) (at : ℕ) : Type 0 where
+  pub within : at < length bs
+  pub before : first test (whole (take at bs)) ≡ None
+  pub here : IsSome (first test (block_at bs at))
+
+-- each of the first blocks has more than 126 pieces with the next one
+abbrev pub IsDense : ℕ → List (List Piece) → Type 0
+IsDense n bs = (i : ℕ) → i < n → 126 < length (block_at bs i) + length (block_at bs (i + 1))
+
+-- a list ends with a Free piece
+abbrev pub ends_free : List Piece → Bool
+ends_free [] = false
+ends_free (p ∷ []) = is_free p
+ends_free (p ∷ q ∷ ps) = ends_free (q ∷ ps)
+
+-- a list begins with a Free piece
+abbrev pub starts_free : List Piece → Bool
+starts_free [] = false
+starts_free (p ∷ ps) = is_free p
+
+-- so many free bytes more at its end
+abbrev pub grown : ℕ → List Piece → List Piece
+grown more [] = []
+grown more (p ∷ []) = free_piece p.pos (p.size + more) ∷ []
+grown more (p ∷ q ∷ ps) = p ∷ grown more (q ∷ ps)
+
+-- the size of the first piece
+abbrev pub first_size : List Piece → ℕ
+first_size [] = 0
+first_size (p ∷ ps) = p.size
+
+-- of the first borders, none has a Free piece on both sides
+abbrev pub AreClosed : ℕ → List (List Piece) → Type 0
+AreClosed n bs = (i : ℕ) → i < n → (ends_free (block_at bs i) && starts_free (block_at bs (i + 1))) ≡ false
+
+-- no block is empty, and in none two neighbours are Free
+abbrev pub AreTidy : List (List Piece) → Type 0
+AreTidy [] = Unit {0}
+AreTidy (b ∷ bs) = (0 < length b) × AreMerged b × AreTidy bs
+
+-- the blocks with the two Free pieces at a border as one
+abbrev pub closed_at : ℕ → List (List Piece) → List (List Piece)
+closed_at at bs = slice_set (slice_set bs at (grown (first_size (block_at bs (at + 1))) (block_at bs at))) (at + 1) (drop 1 (block_at bs (at + 1)))
+
+-- where a mark is false, there is no Leaving piece, or no Pending one
+pub record AreMarked (pieces : List Piece) (leaving pending : Bool) : Type 0 where
+  pub none_leaving : leaving ≡ false → counted is_leaving pieces ≡ 0
+  pub none_pending : pending ≡ false → counted is_pending pieces ≡ 0
+
+-- a block has at most 128 pieces and memory for as many, and what it says of them is true
+pub record IsBlock (pieces : List Piece) (capacity most : ℕ) (leaving pending tail : Bool) : Type 0 where
+  pub few : length pieces ≤ 128
+  pub room : 128 ≤ capacity
+  pub offers : largest pieces ≤ most
+  pub marked : AreMarked pieces leaving pending
+  pub end : tail ≡ false → ends_free pieces ≡ false
+
+-- no block is empty
+abbrev pub AreFilled : List (List Piece) → Type 0
+AreFilled [] = Unit {0}
+AreFilled (b ∷ bs) = (0 < length b) × AreFilled bs
+
+-- each piece begins before those behind it
+abbrev pub AreInOrder : List Piece → Type 0
+AreInOrder [] = Unit {0}
+AreInOrder (p ∷ ps) = ((q : Piece) → Has q ps → p.pos < q.pos) × AreInOrder ps
+
+-- where a list begins
+abbrev pub first_pos : List Piece → ℕ
+first_pos [] = 0
+first_pos (p ∷ ps) = p.pos
+
+-- a list begins at or before a place
+abbrev pub starts_by : ℕ → List Piece → Bool
+starts_by pos ps = nat_le (first_pos ps) pos
+
+-- what begins at a place is in the block at this index: all before it begins before the place, and all behind it begins behind
+pub record StandsIn (pos : ℕ) (bs : List (List Piece)) (at : ℕ) : Type 0 where
+  pub within : at < length bs
+  pub before : (p : Piece) → Has p (whole (take at bs)) → p.pos < pos
+  pub behind : (p : Piece) → Has p (whole (drop (at + 1) bs)) → pos < p.pos
