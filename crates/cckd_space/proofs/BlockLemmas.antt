@@ -114,8 +114,8 @@ module _ (test : Piece → Bool) where
       let rest = whole (drop (suc i) bs) in
       whole_set bs i (replaced test news (block_at bs i)) h.within
       ∙ sym (ap (replaced test news) (whole_at bs i h.within)
-        ∙ (replaced_behind news (whole (take i bs)) (block_at bs i ++ rest) h.before
-          ∙ ap (λ (l : List Piece). whole (take i bs) ++ l) (replaced_before news (block_at bs i) rest h.here)))
+      ∙ (replaced_behind news (whole (take i bs)) (block_at bs i ++ rest) h.before
+      ∙ ap (λ (l : List Piece). whole (take i bs) ++ l) (replaced_before news (block_at bs i) rest h.here)))
 
   -- a block in which none passes
   pub none_more : (bs : List (List Piece)) (i : ℕ) → i < length bs → first test (whole (take i bs)) ≡ None → is_some (first test (block_at bs i)) ≡ false → first test (whole (take (i + 1) bs)) ≡ None
@@ -161,7 +161,7 @@ pub largest_append : (xs ys : List Piece) → largest (xs ++ ys) ≡ max (larges
 largest_append [] ys = omega arith
 largest_append (x ∷ xs) ys = let r = largest_append xs ys in omega (arith, r)
 
-counted_append : (test : Piece → Bool) (xs ys : List Piece) → counted test (xs ++ ys) ≡ counted test xs + counted test ys
+pub counted_append : (test : Piece → Bool) (xs ys : List Piece) → counted test (xs ++ ys) ≡ counted test xs + counted test ys
 counted_append test [] ys = omega arith
 counted_append test (x ∷ xs) ys = let r = counted_append test xs ys in omega (arith, r)
 
@@ -191,7 +191,7 @@ size_of-released [] = refl
 size_of-released (p ∷ ps) = let r = size_of-released ps in let s = size_released p in omega (arith, r, s)
 
 -- two free pieces before a list, one after the other or as one
-joined_twice : (x m : Piece) (qs : List Piece) → is_free x ≡ true → is_free m ≡ true → joined x (joined m qs) ≡ joined (free_piece x.pos (x.size + m.size)) qs
+pub joined_twice : (x m : Piece) (qs : List Piece) → is_free x ≡ true → is_free m ≡ true → joined x (joined m qs) ≡ joined (free_piece x.pos (x.size + m.size)) qs
 joined_twice x m [] a b = rw (a, b) refl
 joined_twice x m (q ∷ qs) a b = by (is_free q) refl
   where
@@ -228,8 +228,8 @@ released_blocks (b ∷ bs) =
     let g : List (List Piece) = map (λ (c : List Piece). merged (map released c)) bs in
     merged_before (map released b) (whole g)
     ∙ (sym (merged_behind_too (map released b) (whole g))
-      ∙ (ap (λ (l : List Piece). merged (map released b ++ l)) (released_blocks bs)
-        ∙ (merged_behind_too (map released b) (map released (whole bs)) ∙ ap merged (sym (map-append released b (whole bs))))))
+    ∙ (ap (λ (l : List Piece). merged (map released b ++ l)) (released_blocks bs)
+    ∙ (merged_behind_too (map released b) (map released (whole bs)) ∙ ap merged (sym (map-append released b (whole bs))))))
 
 -- two free pieces side by side are as one
 pub merged_border : (xs : List Piece) (x y : Piece) (ys : List Piece) → is_free x ≡ true → is_free y ≡ true
@@ -244,12 +244,12 @@ front_last xs n d h = sym (take_all (n + 1) xs (omega (arith, h))) ∙ take_more
 -- The number of blocks.
 
 -- of dense blocks there are few
-pub dense_few : (bs : List (List Piece)) → IsDense (length bs - 1) bs → 127 * length bs + length (block_at bs 0) ≤ 2 * length (whole bs) + 127
-dense_few [] h = omega arith
-dense_few (b ∷ []) h = let e = length-append b [] in omega (arith, e)
-dense_few (b ∷ c ∷ bs) h =
-    let r = dense_few (c ∷ bs) (λ i l. let e : suc i + 1 ≡ suc (i + 1) = omega arith in subst (λ (k : ℕ). 126 < length (block_at (b ∷ c ∷ bs) (suc i)) + length (block_at (b ∷ c ∷ bs) k)) e (h (suc i) (omega arith))) in
-    let g : 126 < length b + length c = h 0 (omega arith) in
+pub dense_few : (full : ℕ) (bs : List (List Piece)) → IsDense full (length bs - 1) bs → (full + 1) * length bs + length (block_at bs 0) ≤ 2 * length (whole bs) + (full + 1)
+dense_few full [] h = omega arith
+dense_few full (b ∷ []) h = let e = length-append b [] in omega (arith, e)
+dense_few full (b ∷ c ∷ bs) h =
+    let r = dense_few full (c ∷ bs) (λ i l. let e : suc i + 1 ≡ suc (i + 1) = omega arith in subst (λ (k : ℕ). full < length (block_at (b ∷ c ∷ bs) (suc i)) + length (block_at (b ∷ c ∷ bs) k)) e (h (suc i) (omega arith))) in
+    let g : full < length b + length c = h 0 (omega arith) in
     let e = length-append b (whole (c ∷ bs)) in
     omega (arith, r, g, e)
 
@@ -264,8 +264,8 @@ pub whole_united_at : (bs : List (List Piece)) (i : ℕ) → i + 1 < length bs �
 whole_united_at bs i h = subst (λ (m : ℕ). whole (slice_set (remove bs m) i (block_at bs i ++ block_at bs m)) ≡ whole bs) (sym (add-one i)) (whole_united bs i (omega arith))
 
 -- the blocks before stay dense
-pub dense_united : (bs : List (List Piece)) (n : ℕ) → n + 1 < length bs → IsDense n bs → IsDense n (slice_set (remove bs (n + 1)) n (block_at bs n ++ block_at bs (n + 1)))
-dense_united bs n l h = λ i m.
+pub dense_united : (full : ℕ) (bs : List (List Piece)) (n : ℕ) → n + 1 < length bs → IsDense full n bs → IsDense full n (slice_set (remove bs (n + 1)) n (block_at bs n ++ block_at bs (n + 1)))
+dense_united full bs n l h = λ i m.
     let cut = remove bs (n + 1) in
     let b = block_at bs n ++ block_at bs (n + 1) in
     let len = length-remove bs (n + 1) l in
@@ -274,20 +274,20 @@ dense_united bs n l h = λ i m.
     let e1 = ap length first_same in
     let more = length-append (block_at bs n) (block_at bs (n + 1)) in
     elim (cases_eq (i + 1) n) [
-    | inl e ↦
-        let s = ap length (ap (λ (k : ℕ). block_at (slice_set cut n b) k) e ∙ get_or-set_same cut n b [] (omega (arith, len))) in
-        let t = ap (λ (k : ℕ). length (block_at bs k)) e in
-        omega (arith, g, e1, more, s, t)
-    | inr ne ↦
-        let s = ap length (get_or-set_other cut n (i + 1) b [] ne ∙ get_or-remove_below bs (n + 1) [] (i + 1) (omega arith) l) in
-        omega (arith, g, e1, s)
+      | inl e ↦
+          let s = ap length (ap (λ (k : ℕ). block_at (slice_set cut n b) k) e ∙ get_or-set_same cut n b [] (omega (arith, len))) in
+          let t = ap (λ (k : ℕ). length (block_at bs k)) e in
+          omega (arith, g, e1, more, s, t)
+      | inr ne ↦
+          let s = ap length (get_or-set_other cut n (i + 1) b [] ne ∙ get_or-remove_below bs (n + 1) [] (i + 1) (omega arith) l) in
+          omega (arith, g, e1, s)
     ]
 
-pub dense_more : (bs : List (List Piece)) (n : ℕ) → IsDense n bs → 126 < length (block_at bs n) + length (block_at bs (n + 1)) → IsDense (n + 1) bs
-dense_more bs n h g = λ i m. elim (cases_lt i n) [
+pub dense_more : (full : ℕ) (bs : List (List Piece)) (n : ℕ) → IsDense full n bs → full < length (block_at bs n) + length (block_at bs (n + 1)) → IsDense full (n + 1) bs
+dense_more full bs n h g = λ i m. elim (cases_lt i n) [
   | inl l ↦ h i l
-  | inr ge ↦ let e : n ≡ i = omega arith in subst (λ (k : ℕ). 126 < length (block_at bs k) + length (block_at bs (k + 1))) e g
-  ]
+  | inr ge ↦ let e : n ≡ i = omega arith in subst (λ (k : ℕ). full < length (block_at bs k) + length (block_at bs (k + 1))) e g
+]
 
 pub marked_both : (xs ys : List Piece) (a b c d : Bool) → AreMarked xs a b → AreMarked ys c d → AreMarked (xs ++ ys) (a || c) (b || d)
 marked_both xs ys a b c d m n = record {
@@ -298,6 +298,7 @@ marked_both xs ys a b c d m n = record {
     or_left : (p q : Bool) → (p || q) ≡ false → p ≡ false
     or_left true q e = absurd cc
     or_left false q e = refl
+
     or_right : (p q : Bool) → (p || q) ≡ false → q ≡ false
     or_right true q e = absurd cc
     or_right false q e = e
@@ -394,8 +395,8 @@ border_closed bs i more a b h e f m p q =
     let q' : b ≡ drop 1 (block_at bs (suc i)) = q ∙ ap (λ (k : ℕ). drop 1 (block_at bs k)) s in
     ap (λ (k : ℕ). merged (whole (slice_set (slice_set bs i a) k b))) s
     ∙ (ap (λ (l : List Piece). merged (whole (slice_set (slice_set bs i l) (suc i) b))) p'
-      ∙ (ap (λ (l : List Piece). merged (whole (slice_set (slice_set bs i (grown (first_size (block_at bs (suc i))) (block_at bs i))) (suc i) l))) q'
-        ∙ border bs i (omega arith) e f'))
+    ∙ (ap (λ (l : List Piece). merged (whole (slice_set (slice_set bs i (grown (first_size (block_at bs (suc i))) (block_at bs i))) (suc i) l))) q'
+    ∙ border bs i (omega arith) e f'))
 
 -- Where all borders are closed.
 
@@ -408,11 +409,11 @@ merged_append [] ys a b e = b
 merged_append (x ∷ []) ys a b e = (start_of x ys e, b)
 merged_append (x ∷ y ∷ xs) ys a b e = (a.0, merged_append (y ∷ xs) ys a.1 b e)
 
-start_whole : (b : List Piece) (ys : List Piece) → 0 < length b → starts_free (b ++ ys) ≡ starts_free b
+pub start_whole : (b : List Piece) (ys : List Piece) → 0 < length b → starts_free (b ++ ys) ≡ starts_free b
 start_whole [] ys h = absurd (omega arith)
 start_whole (x ∷ xs) ys h = refl
 
-no_end : (b : Bool) → (b && false) ≡ false
+pub no_end : (b : Bool) → (b && false) ≡ false
 no_end true = refl
 no_end false = refl
 
@@ -422,8 +423,8 @@ whole_is_merged [] t h = tt
 whole_is_merged (b ∷ []) t h = merged_append b [] t.1 tt (no_end (ends_free b))
 whole_is_merged (b ∷ c ∷ cs) t h =
     let rest = whole_is_merged (c ∷ cs) t.2 (λ i l.
-        let e : suc i + 1 ≡ suc (i + 1) = omega arith in
-        subst (λ (k : ℕ). (ends_free (block_at (b ∷ c ∷ cs) (suc i)) && starts_free (block_at (b ∷ c ∷ cs) k)) ≡ false) e (h (suc i) (omega arith))) in
+    let e : suc i + 1 ≡ suc (i + 1) = omega arith in
+    subst (λ (k : ℕ). (ends_free (block_at (b ∷ c ∷ cs) (suc i)) && starts_free (block_at (b ∷ c ∷ cs) k)) ≡ false) e (h (suc i) (omega arith))) in
     let first_border : (ends_free b && starts_free c) ≡ false = h 0 (omega arith) in
     let s = start_whole c (whole cs) t.2.0 in
     merged_append b (whole (c ∷ cs)) t.1 rest (subst (λ (f : Bool). (ends_free b && f) ≡ false) (sym s) first_border)
@@ -434,7 +435,7 @@ whole_merged bs old t h e = sym (merged_same (whole bs) (whole_is_merged bs t h)
 
 -- A border that is closed.
 
-grown_len : (more : ℕ) (xs : List Piece) → length (grown more xs) ≡ length xs
+pub grown_len : (more : ℕ) (xs : List Piece) → length (grown more xs) ≡ length xs
 grown_len more [] = refl
 grown_len more (x ∷ []) = refl
 grown_len more (x ∷ y ∷ ys) = ap suc (grown_len more (y ∷ ys))
@@ -444,13 +445,13 @@ grown_start more [] e = refl
 grown_start more (x ∷ []) e = sym e
 grown_start more (x ∷ y ∷ ys) e = refl
 
-grown_merged : (more : ℕ) (xs : List Piece) → ends_free xs ≡ true → AreMerged xs → AreMerged (grown more xs)
+pub grown_merged : (more : ℕ) (xs : List Piece) → ends_free xs ≡ true → AreMerged xs → AreMerged (grown more xs)
 grown_merged more [] e a = tt
 grown_merged more (x ∷ []) e a = (tt, tt)
 grown_merged more (x ∷ y ∷ []) e a = (subst (λ (b : Bool). (is_free x && b) ≡ false) e a.0, grown_merged more (y ∷ []) e a.1)
 grown_merged more (x ∷ y ∷ z ∷ zs) e a = (a.0, grown_merged more (y ∷ z ∷ zs) e a.1)
 
-tail_merged : (xs : List Piece) → AreMerged xs → AreMerged (drop 1 xs)
+pub tail_merged : (xs : List Piece) → AreMerged xs → AreMerged (drop 1 xs)
 tail_merged [] a = tt
 tail_merged (x ∷ xs) a = a.1
 
@@ -498,10 +499,10 @@ closed_front bs i n h e l c = λ k m.
     let one = slice_set bs i a in
     let s = get_or-set_other one (suc i) k b [] (λ q. omega (arith, q, m)) ∙ get_or-set_other bs i k a [] (λ q. omega (arith, q, m)) in
     let t : starts_free (block_at (closed_by i bs) (k + 1)) ≡ starts_free (block_at bs (k + 1)) = elim (cases_eq (k + 1) i) [
-    | inl q ↦
-        subst (λ (j : ℕ). starts_free (block_at (closed_by i bs) j) ≡ starts_free (block_at bs j)) (sym q)
-        (ap starts_free (get_or-set_other one (suc i) i b [] (λ z. omega (arith, z)) ∙ get_or-set_same bs i a [] (omega arith)) ∙ grown_start (first_size (block_at bs (suc i))) (block_at bs i) e)
-    | inr q ↦ ap starts_free (get_or-set_other one (suc i) (k + 1) b [] (λ z. omega (arith, z, m)) ∙ get_or-set_other bs i (k + 1) a [] q)
+      | inl q ↦
+          subst (λ (j : ℕ). starts_free (block_at (closed_by i bs) j) ≡ starts_free (block_at bs j)) (sym q)
+          (ap starts_free (get_or-set_other one (suc i) i b [] (λ z. omega (arith, z)) ∙ get_or-set_same bs i a [] (omega arith)) ∙ grown_start (first_size (block_at bs (suc i))) (block_at bs i) e)
+      | inr q ↦ ap starts_free (get_or-set_other one (suc i) (k + 1) b [] (λ z. omega (arith, z, m)) ∙ get_or-set_other bs i (k + 1) a [] q)
     ] in
     subst (λ (x : List Piece). (ends_free x && starts_free (block_at (closed_by i bs) (k + 1))) ≡ false) (sym s)
     (subst (λ (x : Bool). (ends_free (block_at bs k) && x) ≡ false) (sym t) (c k m))
@@ -548,7 +549,7 @@ joined_merged p (q ∷ qs) a = by (is_free p && is_free q) refl
         after false g (y ∷ ys) h = absurd (let n : (is_free p && false) ≡ true = rw g at e in let m = no_end (is_free p) in cc)
     by false e = rw e (e, a)
 
-merged_is_merged : (ps : List Piece) → AreMerged (merged ps)
+pub merged_is_merged : (ps : List Piece) → AreMerged (merged ps)
 merged_is_merged [] = tt
 merged_is_merged (p ∷ ps) = joined_merged p (merged ps) (merged_is_merged ps)
 
@@ -556,7 +557,7 @@ joined_some : (p : Piece) (qs : List Piece) → 0 < length (joined p qs)
 joined_some p [] = omega arith
 joined_some p (q ∷ qs) = cond_both (is_free p && is_free q) (free_piece p.pos (p.size + q.size) ∷ qs) (p ∷ q ∷ qs) (λ (l : List Piece). 0 < length l) (λ e. omega arith) (λ e. omega arith)
 
-merged_some : (ps : List Piece) → 0 < length ps → 0 < length (merged ps)
+pub merged_some : (ps : List Piece) → 0 < length ps → 0 < length (merged ps)
 merged_some [] h = absurd (omega arith)
 merged_some (p ∷ ps) h = joined_some p (merged ps)
 
@@ -579,3 +580,9 @@ at_rest f xs ys i d h e =
     let n : length (map f (take i xs)) ≡ i = length-map (take i xs) f ∙ length-take-le i xs (omega (arith, h)) in
     let z : i + (i - i) ≡ i = omega arith in
     ap (λ (l : List (List Piece)). get_or l i d) e ∙ (get_or-append_right (map f (take i xs)) (drop i xs) i i d n (omega arith) ∙ (get_or-drop i xs (i - i) d ∙ ap (λ (k : ℕ). get_or xs k d) z))
+
+-- a list ends with its last piece
+pub ends_with : (xs : List Piece) (p : Piece) → ends_free (xs ++ p ∷ []) ≡ is_free p
+ends_with [] p = refl
+ends_with (x ∷ []) p = refl
+ends_with (x ∷ y ∷ ys) p = ends_with (y ∷ ys) p

@@ -3,10 +3,10 @@ use Rattle.std.proofs.Common.{◌≡◌, ℕ, ◌+◌, ◌≤◌, Bool, true, fa
 use Rattle.cckd_space.specs.declared.piece.Kind.{Kind}
 use Rattle.cckd_space.specs.declared.piece.Kind.TheVariants.{Used, Free, Reserved, Leaving, Pending}
 use Rattle.cckd_space.specs.declared.piece.Piece.{Piece}
-use Rattle.cckd_space.specs.Pieces.{free_kind, is_reserved_at, is_used_at, left, replaced, reserved_in, has_room, retired, released, merged, counted, is_leaving, is_pending, leaving_kind, pending_kind}
+use Rattle.cckd_space.specs.Pieces.{free_kind, is_reserved_at, is_used_at, left, replaced, reserved_in, has_room, retired, released, merged, counted, is_leaving, is_pending, leaving_kind, pending_kind, cut, freed}
 use Rattle.cckd_space.specs.Blocks.{AreMarked}
 use Rattle.cckd_space.proofs.LaidLemmas.{room_facts}
-use Rattle.cckd_space.proofs.CountLemmas.{one, found_reserved, found_used, count_even, count_reserved_in, count_merged, count_retired, count_released, free_kinds}
+use Rattle.cckd_space.proofs.CountLemmas.{one, found_reserved, found_used, count_even, count_reserved_in, count_merged, count_retired, count_released, count_cut, free_kinds}
 
 -- with no more of both, the marks stay true
 pub block_fewer : (old new : List Piece) (leaving pending : Bool) → counted is_leaving new ≤ counted is_leaving old → counted is_pending new ≤ counted is_pending old → AreMarked old leaving pending → AreMarked new leaving pending
@@ -51,3 +51,23 @@ block_left pos ps leaving pending m = record {
       let d = count_even pending_kind refl (is_used_at pos) (λ p. left p ∷ []) (λ p t. let k = ap (λ (x : Kind). one (pending_kind x)) (found_used pos p t) in omega (arith, k)) ps in
       omega (arith, h, d);
 }
+
+-- one piece, or one more
+pub marked_one : (p : Piece) → AreMarked (p ∷ []) (is_leaving p) (is_pending p)
+marked_one p = record { none_leaving = λ e. rw e (omega arith); none_pending = λ e. rw e (omega arith) }
+
+-- another end
+pub block_cut : (len size : ℕ) (ps : List Piece) (leaving pending : Bool) → AreMarked ps leaving pending → AreMarked (cut len size ps) leaving pending
+block_cut len size ps leaving pending m =
+    let a = count_cut leaving_kind refl len size ps in
+    let b = count_cut pending_kind refl len size ps in
+    block_fewer ps (cut len size ps) leaving pending (omega (arith, a)) (omega (arith, b)) m
+
+-- a Reserved piece that is given back
+pub block_given_back : (pos : ℕ) (ps : List Piece) (leaving pending : Bool) → AreMarked ps leaving pending → AreMarked (merged (replaced (is_reserved_at pos) (λ p. freed p ∷ []) ps)) leaving pending
+block_given_back pos ps leaving pending m =
+    let now = replaced (is_reserved_at pos) (λ p. freed p ∷ []) ps in
+    let a = count_merged leaving_kind refl now in
+    let b = count_merged pending_kind refl now in
+    block_fewer now (merged now) leaving pending (omega (arith, a)) (omega (arith, b))
+    (block_settled pos freed (λ p. refl) (λ p. refl) ps leaving pending m)

@@ -16,3 +16,6 @@ pub mod UsedLemmas
 pub mod BlockMarkLemmas
 pub mod BlockLemmas
 pub mod OrderLemmas
+pub mod FitLemmas
+pub mod KnitLemmas
+pub mod BackLemmas

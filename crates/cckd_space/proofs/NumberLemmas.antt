@@ -1,5 +1,5 @@
 -- The numbers of a list of pieces that cover a file.
-use Rattle.std.proofs.Common.{◌≡◌, ℕ, zero, suc, ◌+◌, ◌-◌, ◌*◌, ◌<◌, ◌≤◌, nat_le, Bool, true, false, cond, ◌&&◌, List, [], ◌∷◌, length, get_or, Some, None, refl, ap, arith, position}
+use Rattle.std.proofs.Common.{◌≡◌, ℕ, zero, suc, ◌+◌, ◌-◌, ◌*◌, ◌<◌, ◌≤◌, nat_le, Bool, true, false, cond, ◌&&◌, max, List, [], ◌∷◌, ◌++◌, length, get_or, Some, None, refl, ap, arith, position}
 use Rattle.std.proofs.lemmas.Bool.{cond_both, leb-true, leb-false, and_parts, false_from_ne_true}
 use Rattle.cckd_base.specs.declared.space.Owner.TheVariants.{Nobody}
 use Rattle.cckd_space.specs.declared.piece.Kind.TheVariants.{Used, Free, Reserved, Leaving, Pending}
@@ -111,3 +111,28 @@ small_none test need has xs h =
     let o = offers need (get_or xs k d) (has (get_or xs k d) e) in
     let g = greatest_ge offer xs k d l in
     omega (arith, o, g)))
+
+-- a Free piece of at least 8 bytes offers some
+roomy_offers : (from : ℕ) (p : Piece) → is_roomy_from from p ≡ true → 0 < offer p
+roomy_offers from p e =
+    let a = and_parts (is_roomy p) (nat_le from p.pos) e in
+    let b = and_parts (is_free p) (nat_le 8 p.size) a.0 in
+    let l = leb-true 8 p.size b.1 in
+    rw b.0 (omega (arith, l))
+
+-- so there is none where nothing is offered
+pub no_roomy : (from : ℕ) (ps : List Piece) → largest ps ≤ 0 → first (is_roomy_from from) ps ≡ None
+no_roomy from [] h = refl
+no_roomy from (p ∷ ps) h =
+    let n : is_roomy_from from p ≡ false = false_from_ne_true (is_roomy_from from p) (λ e. let o = roomy_offers from p e in omega (arith, o, h)) in
+    rw n (no_roomy from ps (omega (arith, h)))
+
+-- Of two lists one behind the other.
+
+pub summed_append : (f : Piece → ℕ) (xs ys : List Piece) → summed f (xs ++ ys) ≡ summed f xs + summed f ys
+summed_append f [] ys = omega arith
+summed_append f (x ∷ xs) ys = let r = summed_append f xs ys in omega (arith, r)
+
+pub greatest_append : (f : Piece → ℕ) (xs ys : List Piece) → greatest f (xs ++ ys) ≡ max (greatest f xs) (greatest f ys)
+greatest_append f [] ys = omega arith
+greatest_append f (x ∷ xs) ys = let r = greatest_append f xs ys in omega (arith, r)

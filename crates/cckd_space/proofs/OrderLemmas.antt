@@ -1,15 +1,17 @@
 -- Where a piece that begins at a place stands among blocks in order.
-use Rattle.std.proofs.Common.{◌≡◌, ◌⊎◌, ℕ, zero, suc, ◌+◌, ◌-◌, ◌<◌, ◌≤◌, Bool, true, false, List, [], ◌∷◌, ◌++◌, length, take, drop, get_or, slice_set, Option, Some, None, IsSome, refl, sym, ◌∙◌, ap, subst, inl, inr, arith, add-one}
-use Rattle.std.proofs.lemmas.Bool.{cases_lt, cond_both, false_from_ne_true, le-leb, lt-leb}
-use Rattle.std.proofs.lemmas.List.{get_or_read}
+use Rattle.std.proofs.Common.{◌≡◌, ◌⊎◌, ℕ, zero, suc, ◌+◌, ◌-◌, ◌<◌, ◌≤◌, Bool, true, false, List, [], ◌∷◌, ◌++◌, length, take, drop, get_or, slice_set, min, nat_le, Option, Some, None, IsSome, refl, sym, ◌∙◌, ap, subst, inl, inr, arith, add-one}
+use Rattle.std.proofs.lemmas.Bool.{and_parts, cases_lt, cond_both, false_from_ne_true, le-leb, leb-true, lt-leb}
+use Rattle.std.proofs.lemmas.List.{append_assoc, append-nil, get_or-take, get_or_read, length-take-le, take-take}
 use Rattle.std.specs.Option.{option_or}
 use Rattle.std.specs.Prelude.{if◌then◌else◌}
 use Rattle.cckd_space.specs.declared.piece.Piece.{Piece}
-use Rattle.cckd_space.specs.Pieces.{Has, begins_by, first, last, replaced, IsLaid}
-use Rattle.cckd_space.specs.Inside.{IsInOrder}
+use Rattle.cckd_space.specs.Pieces.{Has, aligned_up, begins_by, cut, first, free_run, has_room, has_room_below, is_roomy_from, last, replaced, trimmed, used_end, IsLaid}
+use Rattle.cckd_space.specs.Inside.{EndsAt, IsInOrder}
 use Rattle.cckd_space.specs.Blocks.{block_at, whole, AreFilled, AreInOrder, first_pos, StandsIn, IsFoundIn}
 use Rattle.cckd_space.proofs.CallerLemmas.{laid_has}
-use Rattle.cckd_space.proofs.BlockLemmas.{whole_at, first_in, first_behind, replaced_in}
+use Rattle.cckd_space.proofs.LaidLemmas.{up}
+use Rattle.cckd_space.proofs.SearchLemmas.{too_near}
+use Rattle.cckd_space.proofs.BlockLemmas.{whole_at, whole_set, first_in, first_behind, replaced_in}
 
 pub has_left : (p : Piece) (xs ys : List Piece) → Has p xs → Has p (xs ++ ys)
 has_left p [] ys h = absurd h
@@ -62,7 +64,7 @@ order_block bs i l o =
     (order_rest (whole (take i bs)) (block_at bs i ++ whole (drop (suc i) bs)) (subst AreInOrder (whole_at bs i l) o))
 
 -- a piece that begins a block begins before the other pieces from there on
-first_first : (xs : List Piece) (p : Piece) → AreInOrder xs → Has p xs → first_pos xs ≤ p.pos
+pub first_first : (xs : List Piece) (p : Piece) → AreInOrder xs → Has p xs → first_pos xs ≤ p.pos
 first_first [] p o h = absurd h
 first_first (x ∷ xs) p o h = elim h [
   | inl e ↦ let s = ap (λ (r : Piece). r.pos) e in omega (arith, s)
@@ -77,7 +79,7 @@ first_pos_append : (xs ys : List Piece) → 0 < length xs → first_pos (xs ++ y
 first_pos_append [] ys l = absurd (omega arith)
 first_pos_append (x ∷ xs) ys l = refl
 
-filled_at : (bs : List (List Piece)) (i : ℕ) (d : List Piece) → AreFilled bs → i < length bs → 0 < length (get_or bs i d)
+pub filled_at : (bs : List (List Piece)) (i : ℕ) (d : List Piece) → AreFilled bs → i < length bs → 0 < length (get_or bs i d)
 filled_at [] i d f l = absurd (omega arith)
 filled_at (b ∷ bs) zero d f l = f.0
 filled_at (b ∷ bs) (suc i) d f l = filled_at bs i d f.1 (omega arith)
@@ -100,7 +102,7 @@ first_rises (b ∷ bs) zero (suc j) d f o l m =
 first_rises (b ∷ bs) (suc i) (suc j) d f o l m = first_rises bs i j d f.1 (order_rest b (whole bs) o) (omega arith) (omega arith)
 
 -- the blocks from an index on
-split_whole : (bs : List (List Piece)) (i : ℕ) → whole bs ≡ whole (take i bs) ++ whole (drop i bs)
+pub split_whole : (bs : List (List Piece)) (i : ℕ) → whole bs ≡ whole (take i bs) ++ whole (drop i bs)
 split_whole [] zero = refl
 split_whole [] (suc i) = refl
 split_whole (b ∷ bs) zero = refl
@@ -110,12 +112,12 @@ split_whole (b ∷ bs) (suc i) = ap (λ (l : List Piece). b ++ l) (split_whole b
     assoc [] ys zs = refl
     assoc (x ∷ xs) ys zs = ap (λ (l : List Piece). x ∷ l) (assoc xs ys zs)
 
-first_of_rest : (bs : List (List Piece)) (i : ℕ) → AreFilled bs → i < length bs → first_pos (whole (drop i bs)) ≡ first_pos (block_at bs i)
+pub first_of_rest : (bs : List (List Piece)) (i : ℕ) → AreFilled bs → i < length bs → first_pos (whole (drop i bs)) ≡ first_pos (block_at bs i)
 first_of_rest [] i f l = absurd (omega arith)
 first_of_rest (b ∷ bs) zero f l = first_pos_append b (whole bs) f.0
 first_of_rest (b ∷ bs) (suc i) f l = first_of_rest bs i f.1 (omega arith)
 
-none_past : (bs : List (List Piece)) (i : ℕ) (p : Piece) → length bs ≤ i → Has p (whole (drop i bs)) → ⊥
+pub none_past : (bs : List (List Piece)) (i : ℕ) (p : Piece) → length bs ≤ i → Has p (whole (drop i bs)) → ⊥
 none_past [] zero p l h = h
 none_past [] (suc i) p l h = h
 none_past (b ∷ bs) zero p l h = omega arith
@@ -147,7 +149,7 @@ stands_in pos bs n at f o some w e low high = record {
 
 -- A test that only a piece at the place passes.
 
-none_has : (test : Piece → Bool) (xs : List Piece) → ((p : Piece) → Has p xs → test p ≡ false) → first test xs ≡ None
+pub none_has : (test : Piece → Bool) (xs : List Piece) → ((p : Piece) → Has p xs → test p ≡ false) → first test xs ≡ None
 none_has test [] h = refl
 none_has test (x ∷ xs) h = rw (h x (inl refl)) (none_has test xs (λ p k. h p (inr k)))
 
@@ -172,7 +174,7 @@ module _ (test : Piece → Bool) (pos : ℕ) (only : (p : Piece) → test p ≡ 
       let rest = whole (drop (suc at) bs) in
       ap (first test) (whole_at bs at s.within)
       ∙ (first_behind test (whole (take at bs)) (block_at bs at ++ rest) (none_before bs at s)
-        ∙ first_alone (block_at bs at) rest (subst (λ (k : ℕ). first test (whole (drop k bs)) ≡ None) (add-one at) (none_behind bs at s)))
+      ∙ first_alone (block_at bs at) rest (subst (λ (k : ℕ). first test (whole (drop k bs)) ≡ None) (add-one at) (none_behind bs at s)))
 
   pub found_stands : (bs : List (List Piece)) (at : ℕ) → StandsIn pos bs at → IsSome (first test (whole bs)) → IsFoundIn test bs at
   found_stands bs at s there = record {
@@ -190,23 +192,11 @@ pub some_block : (test : Piece → Bool) (bs : List (List Piece)) → IsSome (fi
 some_block test [] h = absurd (let g : false ≡ true = h in cc)
 some_block test (b ∷ bs) h = omega arith
 
-swapped_len : (test : Piece → Bool) (f : Piece → Piece) (xs : List Piece) → length (replaced test (λ p. f p ∷ []) xs) ≡ length xs
+pub swapped_len : (test : Piece → Bool) (f : Piece → Piece) (xs : List Piece) → length (replaced test (λ p. f p ∷ []) xs) ≡ length xs
 swapped_len test f [] = refl
 swapped_len test f (x ∷ xs) =
     cond_both (test x) (f x ∷ xs) (x ∷ replaced test (λ p. f p ∷ []) xs) (λ (l : List Piece). length l ≡ suc (length xs))
     (λ e. refl) (λ e. ap suc (swapped_len test f xs))
-
--- an edit that leaves a block as long as it was keeps all filled
-pub filled_set : (bs : List (List Piece)) (i : ℕ) (b : List Piece) → 0 < length b → AreFilled bs → AreFilled (slice_set bs i b)
-filled_set [] i b l f = tt
-filled_set (x ∷ xs) zero b l f = (l, f.1)
-filled_set (x ∷ xs) (suc i) b l f = (f.0, filled_set xs i b l f.1)
-
-pub filled_swapped : (test : Piece → Bool) (f : Piece → Piece) (bs : List (List Piece)) (i : ℕ) → i < length bs → AreFilled bs → AreFilled (slice_set bs i (replaced test (λ p. f p ∷ []) (block_at bs i)))
-filled_swapped test f bs i l h =
-    let n = swapped_len test f (block_at bs i) in
-    let some = filled_at bs i [] h l in
-    filled_set bs i (replaced test (λ p. f p ∷ []) (block_at bs i)) (omega (arith, n, some)) h
 
 -- a block that was read is the one at its index
 pub read_at : (bs : List (List Piece)) (i : ℕ) (b : List Piece) → i < length bs → b ≡ get_or bs i b → get_or bs i b ≡ block_at bs i
@@ -256,9 +246,9 @@ last_stands pos bs n f o w some low high =
     let l = low at (omega arith) in
     let here = some_last (begins_by pos) b q.0 q.1 (le-leb q.0.pos pos (omega (arith, l, q.2))) in
     let past = none_last (begins_by pos) rest (λ p h.
-        let g : Has p (whole (drop (at + 1) bs)) = subst (λ (k : ℕ). Has p (whole (drop k bs))) (sym (add-one at)) h in
-        let a = s.behind p g in
-        lt-leb p.pos pos a) in
+    let g : Has p (whole (drop (at + 1) bs)) = subst (λ (k : ℕ). Has p (whole (drop k bs))) (sym (add-one at)) h in
+    let a = s.behind p g in
+    lt-leb p.pos pos a) in
     let alone = last_before (begins_by pos) b rest past in
     ap (last (begins_by pos)) (whole_at bs at s.within)
     ∙ (last_behind (begins_by pos) (whole (take at bs)) (b ++ rest) (subst (λ (x : Option Piece). IsSome x) (sym alone) here) ∙ alone)
@@ -271,3 +261,107 @@ none_stands pos (b ∷ bs) f o high = none_last (begins_by pos) (b ++ whole bs) 
     let c = first_first (b ++ whole bs) p o h in
     let e = first_pos_append b (whole bs) f.0 in
     lt-leb p.pos pos (omega (arith, a, c, e)))
+
+-- Going over the blocks from the first on.
+
+-- the blocks from an index on begin with the one there
+pub rest_more : (bs : List (List Piece)) (i : ℕ) (b : List Piece) → i < length bs → b ≡ block_at bs i → whole (drop i bs) ≡ b ++ whole (drop (i + 1) bs)
+rest_more bs i b l e = at bs i l ∙ (ap (λ (c : List Piece). c ++ whole (drop (suc i) bs)) (sym e) ∙ ap (λ (k : ℕ). b ++ whole (drop k bs)) (sym (add-one i)))
+  where
+    at : (xs : List (List Piece)) (k : ℕ) → k < length xs → whole (drop k xs) ≡ block_at xs k ++ whole (drop (suc k) xs)
+    at [] k l = absurd (omega arith)
+    at (x ∷ xs) zero l = refl
+    at (x ∷ xs) (suc k) l = at xs k (omega arith)
+
+pub rest_none : (bs : List (List Piece)) (i : ℕ) → length bs ≤ i → whole (drop i bs) ≡ []
+rest_none [] zero l = refl
+rest_none [] (suc i) l = refl
+rest_none (b ∷ bs) zero l = absurd (omega arith)
+rest_none (b ∷ bs) (suc i) l = rest_none bs i (omega arith)
+
+-- the last block ends the list
+pub whole_last : (bs : List (List Piece)) (i : ℕ) → i + 1 ≡ length bs → whole bs ≡ whole (take i bs) ++ block_at bs i
+whole_last bs i e =
+    let l : i < length bs = omega (arith, e) in
+    let n = rest_none bs (suc i) (omega (arith, e)) in
+    whole_at bs i l ∙ (ap (λ (m : List Piece). whole (take i bs) ++ (block_at bs i ++ m)) n ∙ ap (λ (m : List Piece). whole (take i bs) ++ m) (append-nil (block_at bs i)))
+
+pub ends_at_last : (xs ys : List Piece) (size : ℕ) → 0 < length ys → EndsAt (xs ++ ys) size → EndsAt ys size
+ends_at_last xs ys size some h = record {
+  none = λ e. absurd (let n = ap length e in omega (arith, n, some));
+  last = λ front p e. h.last (xs ++ front) p (ap (λ (m : List Piece). xs ++ m) e ∙ sym (append_assoc xs front (p ∷ [])));
+}
+
+pub used_end_last : (xs ys : List Piece) → 0 < length ys → used_end (xs ++ ys) ≡ used_end ys
+used_end_last [] ys l = refl
+used_end_last (x ∷ []) [] l = absurd (omega arith)
+used_end_last (x ∷ []) (y ∷ ys) l = refl
+used_end_last (x ∷ z ∷ zs) ys l = used_end_last (z ∷ zs) ys l
+
+pub trimmed_last : (xs ys : List Piece) → 0 < length ys → trimmed (xs ++ ys) ≡ xs ++ trimmed ys
+trimmed_last [] ys l = refl
+trimmed_last (x ∷ []) [] l = absurd (omega arith)
+trimmed_last (x ∷ []) (y ∷ ys) l = refl
+trimmed_last (x ∷ z ∷ zs) ys l = ap (λ (m : List Piece). x ∷ m) (trimmed_last (z ∷ zs) ys l)
+
+-- and is cut where the list is
+pub cut_last : (xs ys : List Piece) (len size : ℕ) → 0 < length ys → cut len size (xs ++ ys) ≡ xs ++ cut len size ys
+cut_last xs ys len size l =
+    ap (λ (n : ℕ). trimmed (xs ++ ys) ++ free_run n (min len size)) (used_end_last xs ys l)
+    ∙ (ap (λ (m : List Piece). m ++ free_run (used_end ys) (min len size)) (trimmed_last xs ys l)
+    ∙ append_assoc xs (trimmed ys) (free_run (used_end ys) (min len size)))
+
+pub none_filled : (bs : List (List Piece)) → length bs ≡ 0 → whole bs ≡ []
+none_filled [] e = refl
+none_filled (b ∷ bs) e = absurd (omega (arith, e))
+
+-- blocks that begin behind a place have no room at or below it
+pub none_below : (need before : ℕ) (bs : List (List Piece)) (n : ℕ) → AreFilled bs → AreInOrder (whole bs) → ((k : ℕ) → n ≤ k → k < length bs → before < first_pos (block_at bs k))
+    → first (has_room_below need before) (whole (drop n bs)) ≡ None
+none_below need before bs n f o high = none_has (has_room_below need before) (whole (drop n bs)) (λ p h. elim (cases_lt n (length bs)) [
+  | inl l ↦
+      let a = first_of_rest bs n f l in
+      let b = high n (omega arith) l in
+      let c = first_first (whole (drop n bs)) p (order_rest (whole (take n bs)) (whole (drop n bs)) (subst AreInOrder (split_whole bs n) o)) h in
+      false_from_ne_true (has_room_below need before p) (λ e.
+      let m = leb-true (aligned_up p.pos + need) before (and_parts (has_room need p) (nat_le (aligned_up p.pos + need) before) e).1 in
+      let u = up p.pos in
+      omega (arith, a, b, c, m, u))
+  | inr ge ↦ absurd (none_past bs n p ge h)
+])
+
+-- what is found among the first blocks is found among all
+pub found_wider : (test : Piece → Bool) (bs : List (List Piece)) (n at : ℕ) → n ≤ length bs → IsFoundIn test (take n bs) at → IsFoundIn test bs at
+found_wider test bs n at w h =
+    let l = length-take-le n bs w in
+    let a : at < n = omega (arith, h.within, l) in
+    record {
+      within = omega (arith, a, w);
+      before = subst (λ (m : List (List Piece)). first test (whole m) ≡ None) (take-take at n bs (omega (arith, a))) h.before;
+      here = subst (λ (b : List Piece). IsSome (first test b)) (get_or-take n bs at [] a) h.here;
+    }
+
+-- and what isn't found among them, nor behind, isn't found
+pub none_wider : (test : Piece → Bool) (bs : List (List Piece)) (n : ℕ) → first test (whole (take n bs)) ≡ None → first test (whole (drop n bs)) ≡ None → first test (whole bs) ≡ None
+none_wider test bs n a b = ap (first test) (split_whole bs n) ∙ (first_behind test (whole (take n bs)) (whole (drop n bs)) a ∙ b)
+
+-- a roomy piece from a place on isn't before the place's block
+pub roomy_rest : (from : ℕ) (bs : List (List Piece)) (at : ℕ) → StandsIn from bs at → first (is_roomy_from from) (whole (drop at bs)) ≡ first (is_roomy_from from) (whole bs)
+roomy_rest from bs at s =
+    let none = none_has (is_roomy_from from) (whole (take at bs)) (λ p h. too_near from p (s.before p h)) in
+    sym (ap (first (is_roomy_from from)) (split_whole bs at) ∙ first_behind (is_roomy_from from) (whole (take at bs)) (whole (drop at bs)) none)
+
+-- another last block
+pub whole_set_last : (bs : List (List Piece)) (i : ℕ) (b : List Piece) → i + 1 ≡ length bs → whole (slice_set bs i b) ≡ whole (take i bs) ++ b
+whole_set_last bs i b e =
+    let n = rest_none bs (suc i) (omega (arith, e)) in
+    whole_set bs i b (omega (arith, e)) ∙ (ap (λ (m : List Piece). whole (take i bs) ++ (b ++ m)) n ∙ ap (λ (m : List Piece). whole (take i bs) ++ m) (append-nil b))
+
+pub whole_grown : (bs : List (List Piece)) (i : ℕ) (more : List Piece) → i + 1 ≡ length bs → whole (slice_set bs i (block_at bs i ++ more)) ≡ whole bs ++ more
+whole_grown bs i more e =
+    whole_set_last bs i (block_at bs i ++ more) e
+    ∙ (sym (append_assoc (whole (take i bs)) (block_at bs i) more) ∙ ap (λ (m : List Piece). m ++ more) (sym (whole_last bs i e)))
+
+-- a block that was read and changed
+pub edited : (f : List Piece → List Piece) (bs : List (List Piece)) (i : ℕ) (x y : List Piece) → i < length bs → x ≡ get_or bs i x → y ≡ f x → y ≡ f (block_at bs i)
+edited f bs i x y l r e = e ∙ ap f (get_or_read bs i x l r [])

@@ -161,7 +161,7 @@ where_below need before xs solid at end some h w s e = record {
 }
 
 -- a piece that starts before a place isn't one from it on
-too_near : (from : ℕ) (p : Piece) → p.pos < from → is_roomy_from from p ≡ false
+pub too_near : (from : ℕ) (p : Piece) → p.pos < from → is_roomy_from from p ≡ false
 too_near from p h = false_from_ne_true (is_roomy_from from p) (λ e.
     let l = leb-true from p.pos (and_parts (is_roomy p) (nat_le from p.pos) e).1 in
     omega (arith, l))

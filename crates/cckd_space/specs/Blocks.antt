@@ -1,5 +1,5 @@
 -- The pieces of a file as blocks side by side.
-use Rattle.std.specs.Prelude.{◌≡◌, ℕ, ◌+◌, ◌<◌, ◌≤◌, nat_le, ◌&&◌, Bool, false, List, [], ◌∷◌, ◌++◌, length, take, drop, slice_set, slice_index_or, None, IsSome}
+use Rattle.std.specs.Prelude.{◌≡◌, ℕ, zero, suc, if◌then◌else◌, ◌+◌, ◌<◌, ◌≤◌, nat_le, ◌&&◌, Bool, false, List, [], ◌∷◌, ◌++◌, length, take, drop, slice_set, slice_index_or, None, IsSome}
 use Rattle.cckd_space.specs.declared.piece.Piece.{Piece}
 use Rattle.cckd_space.specs.Pieces.{Has, first, largest, counted, is_free, is_leaving, is_pending, free_piece}
 use Rattle.cckd_space.specs.Inside.{AreMerged}
@@ -19,9 +19,9 @@ pub record IsFoundIn (test : Piece → Bool) (bs : List (List Piece)) (at : ℕ)
   pub before : first test (whole (take at bs)) ≡ None
   pub here : IsSome (first test (block_at bs at))
 
--- each of the first blocks has more than 126 pieces with the next one
-abbrev pub IsDense : ℕ → List (List Piece) → Type 0
-IsDense n bs = (i : ℕ) → i < n → 126 < length (block_at bs i) + length (block_at bs (i + 1))
+-- each of the first blocks has more pieces with the next one than may stand in a block
+abbrev pub IsDense : ℕ → ℕ → List (List Piece) → Type 0
+IsDense full n bs = (i : ℕ) → i < n → full < length (block_at bs i) + length (block_at bs (i + 1))
 
 -- a list ends with a Free piece
 abbrev pub ends_free : List Piece → Bool
@@ -75,6 +75,25 @@ pub record IsBlock (pieces : List Piece) (capacity most : ℕ) (leaving pending 
 abbrev pub AreFilled : List (List Piece) → Type 0
 AreFilled [] = Unit {0}
 AreFilled (b ∷ bs) = (0 < length b) × AreFilled bs
+
+-- no block is empty, and none has more pieces than may stand in a block
+abbrev pub AreFit : ℕ → List (List Piece) → Type 0
+AreFit full [] = Unit {0}
+AreFit full (b ∷ bs) = (0 < length b) × (length b ≤ full) × AreFit full bs
+
+-- all blocks but the one at an index are so, which has at least and at most so many pieces
+abbrev pub AreFitBut : ℕ → ℕ → ℕ → ℕ → List (List Piece) → Type 0
+AreFitBut full least most at [] = Unit {0}
+AreFitBut full least most zero (b ∷ bs) = (least ≤ length b) × (length b ≤ most) × AreFit full bs
+AreFitBut full least most (suc at) (b ∷ bs) = (0 < length b) × (length b ≤ full) × AreFitBut full least most at bs
+
+-- where the blocks were fit they still are
+abbrev pub StayFit : List (List Piece) → List (List Piece) → Type 0
+StayFit old new = (full : ℕ) → AreFit full old → AreFit full new
+
+-- two lists one behind the other, with the Free pieces at the border as one
+abbrev pub knit : List Piece → List Piece → List Piece
+knit xs ys = if ends_free xs && starts_free ys then grown (first_size ys) xs ++ drop 1 ys else xs ++ ys
 
 -- each piece begins before those behind it
 abbrev pub AreInOrder : List Piece → Type 0

@@ -34,6 +34,18 @@ use crate::finding::{reserved_index, room_below_index, used_index};
 use crate::piece::{Piece, align, free, reserved};
 use cckd_base::Owner;
 
+/// Puts a piece behind the list.
+pub(crate) fn push_piece(pieces: &mut Vec<Piece>, piece: Piece)
+    requires room { vec_len pieces.old < vec_capacity pieces.old }
+    ensures items { pieces.new.items ≡ pieces.old.items ++ piece ∷ [] }
+    ensures len { vec_len pieces.new ≡ vec_len pieces.old + 1 }
+    ensures capacity { vec_capacity pieces.old ≤ vec_capacity pieces.new }
+{
+    let Ok(()) = pieces.push(piece) else {
+        unreachable!();
+    };
+}
+
 /// Puts the free bytes between two places into the list, if there are any.
 fn put_run(pieces: &mut Vec<Piece>, at: usize, from: u32, to: u32)
     requires within { at ≤ vec_len pieces.old }

@@ -207,3 +207,14 @@ pub(crate) fn pending_index(pieces: &[Piece]) -> usize
     };
     at
 }
+
+/// The first free piece of at least 8 bytes that starts at or after a place.
+pub(crate) fn roomy_from(pieces: &[Piece], from: u32) -> Option<Piece>
+    requires { IsInOrder pieces.now }
+    ensures { result ≡ first (is_roomy_from from) pieces.now }
+{
+    let Some(at) = roomy_index(pieces, from) else {
+        return None;
+    };
+    Some(pieces[at])
+}

@@ -3,15 +3,19 @@
 
 #[cfg(test)]
 mod beside;
-mod blocks;
+mod block;
+mod border;
 mod editing;
 mod finding;
 mod making;
+mod order;
 mod piece;
 mod pieces;
 #[cfg(test)]
 mod plain;
+mod release;
 mod space;
+mod store;
 #[cfg(test)]
 mod tests;
 mod totals;

@@ -4,21 +4,10 @@ ghost use Rattle.std.specs.Vec.{vec_len, vec_capacity};
 ghost use Rattle.cckd_base.specs.Survey.{StandApart};
 ghost use Rattle.cckd_space.specs.Pieces.{pieces_of, free_run, used_piece};
 
-use crate::editing::push_run;
+use crate::editing::{push_piece, push_run};
 use crate::piece::{Piece, used};
 use cckd_base::{Extent, Memory};
 use std::alloc::Global;
-
-fn push_piece(pieces: &mut Vec<Piece>, piece: Piece)
-    requires room { vec_len pieces.old < vec_capacity pieces.old }
-    ensures items { pieces.new.items ≡ pieces.old.items ++ piece ∷ [] }
-    ensures len { vec_len pieces.new ≡ vec_len pieces.old + 1 }
-    ensures capacity { vec_capacity pieces.old ≤ vec_capacity pieces.new }
-{
-    let Ok(()) = pieces.push(piece) else {
-        unreachable!();
-    };
-}
 
 /// Puts the free bytes up to a used space and the space itself behind the pieces so far.
 fn push_used(pieces: &mut Vec<Piece>, from: u32, extent: &Extent)

@@ -3,6 +3,7 @@ ghost use Rattle.std.specs.Prelude.{◌≡◌, ◌+◌, ◌<◌, ◌^◌, ◌&&�
 ghost use Rattle.cckd_space.specs.Pieces.{
   is_free,
   is_used,
+  is_leaving,
   is_pending,
   is_roomy,
   is_roomy_from,
@@ -210,6 +211,18 @@ impl Piece {
         ensures { result ≡ is_open self.now }
     {
         self.has_room(8)
+    }
+
+    pub(crate) fn is_leaving(&self) -> bool
+        ensures { result ≡ is_leaving self.now }
+    {
+        match self.kind {
+            Kind::Leaving => true,
+            Kind::Used => false,
+            Kind::Free => false,
+            Kind::Reserved => false,
+            Kind::Pending => false,
+        }
     }
 
     pub(crate) fn is_pending(&self) -> bool

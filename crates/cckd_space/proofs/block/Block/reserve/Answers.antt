@@ -1,0 +1,37 @@
+use Rattle.std.proofs.Common.{rules, ◌≡◌, ◌+◌, ◌-◌, ◌<◌, ◌≤◌, ◌^◌, ◌++◌, ◌∷◌, [], length, take, drop, map, IsSome, IfSome, IfNone, IsTrue, Some, None, true, false, position, slice_index_or, ℕ, Bool, List, Option, slice_set, refl, sym, ◌∙◌, ap, subst, arith, add-one}
+use Rattle.std.specs.Option.{option_map, is_some}
+use Rattle.std.specs.Vec.{vec_len, vec_capacity}
+use Rattle.std.proofs.lemmas.List.{get_or_read, take_all}
+use Rattle.std.proofs.lemmas.List.Edits.{map_over_more}
+use Rattle.cckd_space.specs.declared.piece.Piece.{Piece}
+use Rattle.cckd_space.specs.Pieces.{first, replaced, has_room, reserved_in, retired, released, merged, largest, aligned_up}
+use Rattle.cckd_space.specs.Inside.{EndsBelow}
+use Rattle.cckd_space.specs.Blocks.{AreMarked}
+use Rattle.cckd_space.specs.Blocks.{whole, block_at, IsFoundIn}
+use Rattle.cckd_space.proofs.BlockLemmas.{whole_map, whole_inserted, first_in, replaced_in, none_more, some_alike, some_is, ends_in, largest_append, marked_front, marked_rest}
+use Rattle.cckd_space.proofs.FirstLemmas.{none_passes}
+use Rattle.cckd_space.proofs.NumberLemmas.{small_none}
+use Rattle.cckd_space.proofs.BlockMarkLemmas.{block_filled, block_retired}
+use Rattle.cckd_space.proofs.MarkLemmas.{retired_none}
+use Rattle.cckd_space.proofs.KeptLemmas.{largest_retired}
+use Rattle.cckd_space.specs.Blocks.{ends_free}
+use Rattle.cckd_space.proofs.block.Block.reserve.Goals as goal
+
+pub unreachable-requires : goal.unreachable-requires
+unreachable-requires c =
+    let test = has_room c.args.need in
+    let none : position test c.args.self.now ≡ None = ap (position test) (sym c.self.view_is) ∙ (ap (position test) (sym c.as_slice.ensures.value) ∙ (sym c.first_room.ensures ∙ c.in_default.is)) in
+    let g : false ≡ true = subst (λ (o : Option Piece). IsSome o) (none_passes test c.args.self.now none) c.requires.there in
+    absurd cc
+
+pub invariant_of-self : goal.invariant_of-self
+invariant_of-self c =
+    let old = c.self.inside.pieces.items in
+    let same = ap length c.self.view_is in
+    record {
+      few = omega (arith, same, c.requires.room, c.reserve_found-place.ensures.len);
+      room = omega (arith, c.self.invariant.room, c.reserve_found-place.ensures.capacity);
+      offers = omega (arith, c.largest_offer-self-inside.ensures, ap largest c.as_slice-2.ensures.value);
+      marked = subst (λ (l : List Piece). AreMarked l c.self.inside.leaving c.self.inside.pending) (sym c.reserve_found-place.ensures.items) (block_filled (has_room c.args.need) c.args.need (λ p e. e) old c.self.inside.leaving c.self.inside.pending c.self.invariant.marked);
+      end = λ e. ap ends_free (sym c.as_slice-3.ensures.value) ∙ (sym c.slice_ends_free-self-inside.ensures ∙ e);
+    }

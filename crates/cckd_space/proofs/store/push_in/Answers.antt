@@ -1,0 +1,42 @@
+use Rattle.std.proofs.Common.{◌≡◌, ◌+◌, ◌-◌, ◌*◌, ◌/◌, ◌<◌, ◌≤◌, ◌^◌, ◌++◌, ◌∷◌, [], ℕ, Option, List, length, take, drop, slice_set, refl, sym, ◌∙◌, ap, subst, arith, add-one}
+use Rattle.std.specs.Option.{option_map}
+use Rattle.std.specs.List.{insert, remove}
+use Rattle.std.specs.Vec.{vec_len, vec_capacity}
+use Rattle.std.proofs.lemmas.List.{get_or_read, get_or-set_same, length-append, length-drop, length-set, length-take, take-append-drop}
+use Rattle.cckd_space.specs.declared.piece.Piece.{Piece}
+use Rattle.cckd_space.specs.Pieces.{aligned_up, cut, first, has_room, has_room_below, replaced, reserved_in}
+use Rattle.cckd_space.specs.Inside.{EndsAt, EndsBelow, IsInOrder}
+use Rattle.cckd_space.specs.Blocks.{AreFit, AreFitBut, AreInOrder, block_at, IsDense, whole}
+use Rattle.cckd_space.proofs.BlockLemmas.{dense_few, dense_more, dense_united, ends_in, first_in, nil_of, replaced_in, whole_append, whole_inserted, whole_set, whole_united_at, whole_without}
+use Rattle.cckd_space.proofs.OrderLemmas.{cut_last, ends_at_last, filled_at, none_filled, order_block, order_by_index, whole_grown, whole_last}
+use Rattle.cckd_space.proofs.FitLemmas.{but_at, fit_at, fit_but, fit_cut, fit_dropped, fit_even, fit_of_but, fit_pushed, fit_set, fit_united, take_remove}
+use Rattle.cckd_space.proofs.store.push_in.Goals as goal
+
+pub returns-in-Some-clause-items : goal.returns-in-Some-clause-items
+returns-in-Some-clause-items c =
+    let bs = c.args.blocks.now.items in
+    let at = c.in-Some.at in
+    let last : at + 1 ≡ length bs = omega (arith, c.in-Some.ensures.0) in
+    let w : at < length bs = omega (arith, last) in
+    let same = get_or_read bs at c.index_mut.result.now w c.index_mut.ensures.value [] in
+    let now = c.push.ensures ∙ ap (λ (b : List Piece). b ++ c.args.piece ∷ []) same in
+    ap (λ (b : List Piece). whole (slice_set bs at b)) now ∙ whole_grown bs at (c.args.piece ∷ []) last
+
+pub returns-in-Some-clause-fit : goal.returns-in-Some-clause-fit
+returns-in-Some-clause-fit c =
+    let bs = c.args.blocks.now.items in
+    let at = c.in-Some.at in
+    let w : at < length bs = omega (arith, c.in-Some.ensures.0) in
+    let same = get_or_read bs at c.index_mut.result.now w c.index_mut.ensures.value [] in
+    let now = c.push.ensures ∙ ap (λ (b : List Piece). b ++ c.args.piece ∷ []) same in
+    let n = ap length now in
+    let m = length-append (block_at bs at) (c.args.piece ∷ []) in
+    let few : length (block_at bs at) < c.args.full = subst (λ (l : List (List Piece)). length (block_at l at) < c.args.full) c.deref.ensures.value c.in-Some.ensures.1 in
+    fit_set c.args.full bs at c.push.new.self (omega (arith, n, m)) (omega (arith, n, m, few)) c.requires.fit
+
+pub returns-clause-items : goal.returns-clause-items
+returns-clause-items c =
+    ap whole c.push_block.ensures.items ∙ (whole_append c.make_ready.new.blocks.items ((c.args.piece ∷ []) ∷ []) ∙ ap (λ (l : List Piece). l ++ c.args.piece ∷ []) c.make_ready.ensures.same)
+
+pub returns-clause-fit : goal.returns-clause-fit
+returns-clause-fit c = subst (AreFit c.args.full) (sym c.push_block.ensures.items) (fit_pushed c.args.full c.make_ready.new.blocks.items c.args.piece (omega (arith, c.requires.full)) c.make_ready.ensures.fit)

@@ -1,0 +1,49 @@
+use Rattle.std.proofs.Common.{◌≡◌, ◌+◌, ◌-◌, ◌*◌, ◌/◌, ◌<◌, ◌≤◌, ◌^◌, ◌++◌, ◌∷◌, [], ℕ, Option, List, length, take, drop, slice_set, refl, sym, ◌∙◌, ap, subst, arith, add-one}
+use Rattle.std.specs.Option.{option_map}
+use Rattle.std.specs.List.{insert, remove}
+use Rattle.std.specs.Vec.{vec_len, vec_capacity}
+use Rattle.std.proofs.lemmas.List.{get_or_read, get_or-set_same, length-append, length-drop, length-set, length-take, take-append-drop}
+use Rattle.cckd_space.specs.declared.piece.Piece.{Piece}
+use Rattle.cckd_space.specs.Pieces.{aligned_up, cut, first, has_room, has_room_below, replaced, reserved_in}
+use Rattle.cckd_space.specs.Inside.{EndsAt, EndsBelow, IsInOrder}
+use Rattle.cckd_space.specs.Blocks.{AreFit, AreFitBut, AreInOrder, block_at, IsDense, whole}
+use Rattle.cckd_space.proofs.BlockLemmas.{dense_few, dense_more, dense_united, ends_in, first_in, nil_of, replaced_in, whole_append, whole_inserted, whole_set, whole_united_at, whole_without}
+use Rattle.cckd_space.proofs.OrderLemmas.{cut_last, edited, ends_at_last, filled_at, none_filled, order_block, order_by_index, whole_grown, whole_last}
+use Rattle.cckd_space.proofs.FitLemmas.{but_at, fit_at, fit_but, fit_cut, fit_dropped, fit_even, fit_of_but, fit_pushed, fit_set, fit_united, replaced_some, take_remove}
+use Rattle.cckd_space.proofs.store.reserve_in.Goals as goal
+
+pub reserve-place-requires-clause-room : goal.reserve-place-requires-clause-room
+reserve-place-requires-clause-room c =
+    let bs = c.args.blocks.now.items in
+    let same = ap length (get_or_read bs c.args.at c.index_mut.result.now c.requires.found.within c.index_mut.ensures.value []) in
+    let few = (fit_at c.args.full bs c.args.at c.requires.found.within c.requires.fit).1 in
+    omega (arith, same, few, c.requires.full)
+
+pub reserve-place-requires-clause-ends : goal.reserve-place-requires-clause-ends
+reserve-place-requires-clause-ends c =
+    let bs = c.args.blocks.now.items in
+    let same = get_or_read bs c.args.at c.index_mut.result.now c.requires.found.within c.index_mut.ensures.value [] in
+    subst (λ (ps : List Piece). EndsBelow ps (2 ^ 32)) (sym same) (ends_in bs c.args.at (2 ^ 32) c.requires.found.within c.requires.ends)
+
+pub cut_crowded-requires-clause-fit : goal.cut_crowded-requires-clause-fit
+cut_crowded-requires-clause-fit c =
+    let bs = c.args.blocks.now.items in
+    let same = ap length (get_or_read bs c.args.at c.index_mut.result.now c.requires.found.within c.index_mut.ensures.value []) in
+    let few = (fit_at c.args.full bs c.args.at c.requires.found.within c.requires.fit).1 in
+    let some = replaced_some (has_room c.args.need) c.args.need (λ p e. e) (block_at bs c.args.at) (fit_at c.args.full bs c.args.at c.requires.found.within c.requires.fit).0 in
+    let now = edited (replaced (has_room c.args.need) (reserved_in c.args.need)) c.args.blocks.now.items c.args.at c.index_mut.result.now c.reserve-place.new.self c.requires.found.within c.index_mut.ensures.value c.reserve-place.ensures.items in
+    let long = ap length now in
+    fit_but c.args.full 1 (c.args.full + 2) bs c.args.at c.reserve-place.new.self (omega (arith, some, long)) (omega (arith, same, few, c.reserve-place.ensures.len)) c.requires.fit
+
+pub returns-clause-place : goal.returns-clause-place
+returns-clause-place c =
+    let test = has_room c.args.need in
+    let bs = c.args.blocks.now.items in
+    let same = get_or_read bs c.args.at c.index_mut.result.now c.requires.found.within c.index_mut.ensures.value [] in
+    c.reserve-place.ensures.place ∙ ap (λ (o : Option Piece). option_map (λ p. aligned_up p.pos) o) (ap (first test) same ∙ sym (first_in test bs c.args.at c.requires.found))
+
+pub returns-clause-items : goal.returns-clause-items
+returns-clause-items c =
+    let bs = c.args.blocks.now.items in
+    let now = edited (replaced (has_room c.args.need) (reserved_in c.args.need)) c.args.blocks.now.items c.args.at c.index_mut.result.now c.reserve-place.new.self c.requires.found.within c.index_mut.ensures.value c.reserve-place.ensures.items in
+    c.cut_crowded.ensures.same ∙ (ap (λ (b : List Piece). whole (slice_set bs c.args.at b)) now ∙ replaced_in (has_room c.args.need) (reserved_in c.args.need) bs c.args.at c.requires.found)
