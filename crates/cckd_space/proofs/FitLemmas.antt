@@ -6,6 +6,7 @@ use Rattle.std.proofs.lemmas.List.{length-append, length-drop}
 use Rattle.cckd_space.specs.declared.piece.Piece.{Piece}
 use Rattle.cckd_space.specs.Pieces.{aligned_up, free_run, has_room, piece_end, replaced, reserved_in, reserved_piece}
 use Rattle.cckd_space.specs.Inside.{AreMerged}
+use Rattle.cckd_space.proofs.EndLemmas.{run_one}
 use Rattle.cckd_space.specs.Blocks.{AreFilled, AreFit, AreFitBut, AreTidy, StayFit, block_at, first_size, whole}
 
 pub fit_filled : (full : ℕ) (bs : List (List Piece)) → AreFit full bs → AreFilled bs
@@ -119,3 +120,18 @@ replaced_some test need fits (p ∷ ps) l =
     let b = length-append (reserved_in need p) ps in
     omega (arith, a, b))
     (λ e. omega arith)
+
+-- and put two more into the list at most
+pub replaced_few : (test : Piece → Bool) (need : ℕ) (ps : List Piece) → length (replaced test (reserved_in need) ps) ≤ length ps + 2
+replaced_few test need [] = omega arith
+replaced_few test need (p ∷ ps) =
+    cond_both (test p) (reserved_in need p ++ ps) (p ∷ replaced test (reserved_in need) ps) (λ (m : List Piece). length m ≤ length (p ∷ ps) + 2)
+    (λ e.
+    let at = aligned_up p.pos in
+    let rest = free_run (at + need) (piece_end p) in
+    let a = length-append (free_run p.pos at) (reserved_piece at need ∷ rest) in
+    let b = length-append (reserved_in need p) ps in
+    let f = run_one p.pos at in
+    let g = run_one (at + need) (piece_end p) in
+    omega (arith, a, b, f, g))
+    (λ e. let r = replaced_few test need ps in omega (arith, r))

@@ -314,3 +314,8 @@ laid_below ps end most h l = record { each = λ i d w. let r = laid_within 0 ps 
 
 pub below_room : (need before : ℕ) (p : Piece) → has_room_below need before p ≡ true → has_room need p ≡ true
 below_room need before p e = (and_parts (has_room need p) (nat_le (aligned_up p.pos + need) before) e).0
+
+-- there are no more pieces than bytes
+pub laid_long : (at : ℕ) (ps : List Piece) (end : ℕ) → IsLaid at ps end → at + length ps ≤ end
+laid_long at [] end l = omega (arith, l)
+laid_long at (p ∷ ps) end l = let r = laid_long (at + p.size) ps end l.2 in omega (arith, r, l.0.some)

@@ -19,3 +19,4 @@ pub mod OrderLemmas
 pub mod FitLemmas
 pub mod KnitLemmas
 pub mod BackLemmas
+pub mod HeldLemmas

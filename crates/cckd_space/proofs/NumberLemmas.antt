@@ -136,3 +136,18 @@ summed_append f (x ∷ xs) ys = let r = summed_append f xs ys in omega (arith, r
 pub greatest_append : (f : Piece → ℕ) (xs ys : List Piece) → greatest f (xs ++ ys) ≡ max (greatest f xs) (greatest f ys)
 greatest_append f [] ys = omega arith
 greatest_append f (x ∷ xs) ys = let r = greatest_append f xs ys in omega (arith, r)
+
+-- whether so many bytes fit, by what is offered
+pub nowhere_small : (need : ℕ) → 0 < need → (xs : List Piece) → first (has_room need) xs ≡ None → largest xs < need
+nowhere_small need some [] e = some
+nowhere_small need some (x ∷ xs) e = by (has_room need x) refl (nowhere_small need some xs)
+  where
+    by : (b : Bool) → has_room need x ≡ b → (first (has_room need) xs ≡ None → largest xs < need) → largest (x ∷ xs) < need
+    by true f more = absurd (let g : Some x ≡ None = rw f at e in cc)
+    by false f more = let r = more (rw f at e) in let o = no_offer need x some f in omega (arith, r, o)
+
+pub small_nowhere : (test : Piece → Bool) (need : ℕ) → ((p : Piece) → test p ≡ true → has_room need p ≡ true) → (xs : List Piece) → largest xs < need → first test xs ≡ None
+small_nowhere test need has [] h = refl
+small_nowhere test need has (x ∷ xs) h =
+    let n : test x ≡ false = false_from_ne_true (test x) (λ e. let o = offers need x (has x e) in omega (arith, o, h)) in
+    rw n (small_nowhere test need has xs (omega (arith, h)))

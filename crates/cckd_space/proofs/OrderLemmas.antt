@@ -3,7 +3,7 @@ use Rattle.std.proofs.Common.{◌≡◌, ◌⊎◌, ℕ, zero, suc, ◌+◌, ◌
 use Rattle.std.proofs.lemmas.Bool.{and_parts, cases_lt, cond_both, false_from_ne_true, le-leb, leb-true, lt-leb}
 use Rattle.std.proofs.lemmas.List.{append_assoc, append-nil, get_or-take, get_or_read, length-take-le, take-take}
 use Rattle.std.specs.Option.{option_or}
-use Rattle.std.specs.Prelude.{if◌then◌else◌}
+use Rattle.std.specs.Prelude.{if◌then◌else◌, slice_get}
 use Rattle.cckd_space.specs.declared.piece.Piece.{Piece}
 use Rattle.cckd_space.specs.Pieces.{Has, aligned_up, begins_by, cut, first, free_run, has_room, has_room_below, is_roomy_from, last, replaced, trimmed, used_end, IsLaid}
 use Rattle.cckd_space.specs.Inside.{EndsAt, IsInOrder}
@@ -365,3 +365,14 @@ whole_grown bs i more e =
 -- a block that was read and changed
 pub edited : (f : List Piece → List Piece) (bs : List (List Piece)) (i : ℕ) (x y : List Piece) → i < length bs → x ≡ get_or bs i x → y ≡ f x → y ≡ f (block_at bs i)
 edited f bs i x y l r e = e ∙ ap f (get_or_read bs i x l r [])
+
+-- the piece of a number, in one list or the other
+pub get_left : (xs ys : List Piece) (k : ℕ) → k < length xs → slice_get (xs ++ ys) k ≡ slice_get xs k
+get_left [] ys k l = absurd (omega arith)
+get_left (x ∷ xs) ys zero l = refl
+get_left (x ∷ xs) ys (suc k) l = get_left xs ys k (omega arith)
+
+pub get_right : (xs ys : List Piece) (k : ℕ) → length xs ≤ k → slice_get (xs ++ ys) k ≡ slice_get ys (k - length xs)
+get_right [] ys k l = ap (slice_get ys) (let e : k ≡ k - 0 = omega arith in e)
+get_right (x ∷ xs) ys zero l = absurd (omega arith)
+get_right (x ∷ xs) ys (suc k) l = get_right xs ys k (omega arith) ∙ ap (slice_get ys) (let e : k - length xs ≡ suc k - suc (length xs) = omega arith in e)

@@ -7,28 +7,9 @@ use Rattle.cckd_base.specs.declared.space.Owner.TheVariants.{Nobody}
 use Rattle.cckd_space.specs.declared.piece.Kind.TheVariants.{Used}
 use Rattle.cckd_space.specs.declared.piece.Piece.{Piece}
 use Rattle.cckd_space.specs.Pieces.{begins_by, last, is_free, is_roomy, is_roomy_from, is_reserved_at, is_used_at, used_kind, reserved_kind, has_room, has_room_below, aligned_up, piece_end, first, IsLaid}
-use Rattle.cckd_space.specs.Inside.{IsShut, IsInOrder, StartsAt, is_open}
+use Rattle.cckd_space.specs.Inside.{IsInOrder, StartsAt}
 use Rattle.cckd_space.proofs.LaidLemmas.{room_facts}
 use Rattle.cckd_space.proofs.FirstLemmas.{IsFirstAt, first_at, is_first, none_passes}
-
-pub shut_at : (n : ℕ) (ps : List Piece) (k : ℕ) (d : Piece) → IsShut n ps → k < n → is_open (get_or ps k d) ≡ false
-shut_at zero ps k d h l = absurd (omega arith)
-shut_at (suc n) [] k d h l = absurd h
-shut_at (suc n) (p ∷ ps) zero d h l = h.0
-shut_at (suc n) (p ∷ ps) (suc k) d h l = shut_at n ps k d h.1 (omega arith)
-
-pub shut_within : (n : ℕ) (ps : List Piece) → IsShut n ps → n ≤ length ps
-shut_within zero ps h = omega arith
-shut_within (suc n) [] h = absurd h
-shut_within (suc n) (p ∷ ps) h = let r = shut_within n ps h.1 in omega (arith, r)
-
-pub shut_more : (n : ℕ) (ps : List Piece) (d : Piece) → IsShut n ps → n < length ps → is_open (get_or ps n d) ≡ false → IsShut (suc n) ps
-shut_more n [] d h l e = absurd (omega arith)
-shut_more zero (p ∷ ps) d h l e = (e, tt)
-shut_more (suc n) (p ∷ ps) d h l e = (h.0, shut_more n ps d h.1 (omega arith) e)
-
-pub shut_next : (n : ℕ) (ps : List Piece) (d : Piece) → IsShut n ps → n < length ps → is_open (get_or ps n d) ≡ false → IsShut (n + 1) ps
-shut_next n ps d h l e = subst (λ (m : ℕ). IsShut m ps) (sym (add-one n)) (shut_more n ps d h l e)
 
 module _ (test : Piece → Bool) where
   passed_len : (xs : List Piece) (i : ℕ) (d : Piece) → IsFirstAt test xs i d → position_or_len test xs ≡ i
@@ -119,46 +100,6 @@ module _ (test : Piece → Bool) where
 
 free_first : (a b : Bool) → a ≡ false → (a && b) ≡ false
 free_first a b e = rw e refl
-
--- only pieces that offer 8 bytes pass, so none before the first of them does
-pub where_shut : (test : Piece → Bool) → ((p : Piece) → is_open p ≡ false → test p ≡ false) → (xs : List Piece) (solid : ℕ) → IsShut solid xs → IsWhere test xs solid (length xs - solid)
-where_shut test only xs solid h =
-    let w = shut_within solid xs h in
-    record {
-      within = omega (arith, w);
-      before = λ k d l. only (get_or xs k d) (shut_at solid xs k d h l);
-      behind = λ k d o l. absurd (omega (arith, w));
-    }
-
--- what isn't Free offers none
-pub free_shut : (p : Piece) → is_free p ≡ false → is_open p ≡ false
-free_shut p e = free_first (is_free p) (nat_le (aligned_up p.pos + 8) (piece_end p)) e
-
--- where 8 bytes or more fit, 8 do
-pub room_open : (need : ℕ) (p : Piece) → 8 ≤ need → has_room need p ≡ true → is_open p ≡ true
-room_open need p some e =
-    let r = room_facts need p e in
-    rw r.free (le-leb (aligned_up p.pos + 8) (piece_end p) (omega (arith, r.fits)))
-
-pub room_shut : (need : ℕ) → 8 ≤ need → (p : Piece) → is_open p ≡ false → has_room need p ≡ false
-room_shut need some p e = false_from_ne_true (has_room need p) (λ h. let g : true ≡ false = sym (room_open need p some h) ∙ e in cc)
-
-pub room_below_shut : (need before : ℕ) → 8 ≤ need → (p : Piece) → is_open p ≡ false → has_room_below need before p ≡ false
-room_below_shut need before some p e = free_first (has_room need p) (nat_le (aligned_up p.pos + need) before) (room_shut need some p e)
-
--- a space that ends at or below a place is in a piece that begins before it
-too_far : (need before : ℕ) (p : Piece) → 0 < need → before ≤ p.pos → has_room_below need before p ≡ false
-too_far need before p some h = false_from_ne_true (has_room_below need before p) (λ e.
-    let l = leb-true (aligned_up p.pos + need) before (and_parts (has_room need p) (nat_le (aligned_up p.pos + need) before) e).1 in
-    omega (arith, l))
-
-pub where_below : (need before : ℕ) (xs : List Piece) (solid at end : ℕ) → 8 ≤ need → IsShut solid xs → solid ≤ length xs → StartsAt before xs at → end ≡ max at solid
-    → IsWhere (has_room_below need before) xs solid (end - solid)
-where_below need before xs solid at end some h w s e = record {
-  within = omega (arith, s.within);
-  before = λ k d m. room_below_shut need before some (get_or xs k d) (shut_at solid xs k d h m);
-  behind = λ k d o m. too_far need before (get_or xs k d) (omega arith) (s.behind k d (omega arith) m);
-}
 
 -- a piece that starts before a place isn't one from it on
 pub too_near : (from : ℕ) (p : Piece) → p.pos < from → is_roomy_from from p ≡ false

@@ -1,5 +1,5 @@
 -- The pieces of a file as blocks side by side.
-use Rattle.std.specs.Prelude.{◌≡◌, ℕ, zero, suc, if◌then◌else◌, ◌+◌, ◌<◌, ◌≤◌, nat_le, ◌&&◌, Bool, false, List, [], ◌∷◌, ◌++◌, length, take, drop, slice_set, slice_index_or, None, IsSome}
+use Rattle.std.specs.Prelude.{◌≡◌, ℕ, zero, suc, if◌then◌else◌, ◌+◌, ◌*◌, ◌^◌, min, ◌<◌, ◌≤◌, nat_le, ◌&&◌, Bool, false, List, [], ◌∷◌, ◌++◌, length, take, drop, slice_set, slice_index_or, None, IsSome}
 use Rattle.cckd_space.specs.declared.piece.Piece.{Piece}
 use Rattle.cckd_space.specs.Pieces.{Has, first, largest, counted, is_free, is_leaving, is_pending, free_piece}
 use Rattle.cckd_space.specs.Inside.{AreMerged}
@@ -114,3 +114,30 @@ pub record StandsIn (pos : ℕ) (bs : List (List Piece)) (at : ℕ) : Type 0 whe
   pub within : at < length bs
   pub before : (p : Piece) → Has p (whole (take at bs)) → p.pos < pos
   pub behind : (p : Piece) → Has p (whole (drop (at + 1) bs)) → pos < p.pos
+
+-- blocks whose pieces may be read: none is empty, the pieces are in order, and they can be counted
+pub record AreRead (blocks : List (List Piece)) : Type 0 where
+  pub filled : AreFilled blocks
+  pub order : AreInOrder (whole blocks)
+  pub small : length (whole blocks) < 2 ^ 63
+
+-- pieces, and how many may still be added without taking memory
+pub record Held : Type 0 where
+  pub pieces : List Piece
+  pub spare : ℕ
+
+-- the pieces are these now, and the spare ones went where they were used
+pub record Holds (old new : Held) (pieces : List Piece) : Type 0 where
+  pub now : new.pieces ≡ pieces
+  pub spare : new.spare + length pieces ≡ old.spare + length old.pieces
+
+-- the blocks are fit, there are no more pieces than the slots, and there is memory for all blocks on either side;
+-- packed blocks of as many pieces as the slots leave one in the store; and the pieces can be counted
+pub record AreHeld (blocks : List (List Piece)) (slots full count stored roomb rooms : ℕ) : Type 0 where
+  pub least : 4 ≤ full
+  pub most : full ≤ 126
+  pub fit : AreFit full blocks
+  pub fewer : length (whole blocks) ≤ slots
+  pub enough : 2 * slots + (full + 1) < (full + 1) * (count + stored)
+  pub room : count + stored ≤ min roomb rooms
+  pub small : slots < 2 ^ 62

@@ -203,24 +203,20 @@ impl Block {
 
     /// Where so many bytes first fit and end at or below a place.
     pub(crate) fn fits_below(&self, need: u32, before: u32) -> Option<u32>
-        requires some { 8 ≤ need }
-        requires order { IsInOrder self.now }
         ensures { result ≡ first_fit_below need before self.now }
     {
-        finding::place_below(self.pieces.as_slice(), 0, need, before)
+        finding::place_below(self.pieces.as_slice(), need, before)
     }
 
     /// Reserves so many bytes at the first fit that ends at or below a place.
     pub(crate) fn reserve_below(&mut self, need: u32, before: u32) -> Option<u32>
-        requires some { 8 ≤ need }
         requires room { length self.old ≤ 126 }
-        requires order { IsInOrder self.old }
         requires ends { EndsBelow self.old (2 ^ 32) }
         ensures place { result ≡ option_map (λ p. aligned_up p.pos) (first (has_room_below need before) self.old) }
         ensures items { self.new ≡ replaced (has_room_below need before) (reserved_in need) self.old }
         ensures len { length self.new ≤ length self.old + 2 }
     {
-        let place = reserve_below(&mut self.pieces, 0, need, before);
+        let place = reserve_below(&mut self.pieces, need, before);
         self.most = largest_offer(self.pieces.as_slice());
         self.open_end = true;
         place

@@ -4,6 +4,7 @@
 #[cfg(test)]
 mod beside;
 mod block;
+mod blocks;
 mod border;
 mod editing;
 mod finding;

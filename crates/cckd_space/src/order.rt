@@ -1,10 +1,12 @@
 //! What stands where among blocks.
-ghost use Rattle.std.specs.Prelude.{ℕ, ◌≡◌, ◌+◌, ◌-◌, ◌<◌, ◌≤◌, ◌^◌, [], ◌∷◌, length, max, take, drop, IsSome, IfSome, IfNone, Some, None};
+ghost use Rattle.std.specs.Prelude.{ℕ, ◌≡◌, ◌+◌, ◌-◌, ◌<◌, ◌≤◌, ◌^◌, [], ◌∷◌, length, max, take, drop, IsSome, IfSome, IfNone, Some, None, slice_get};
+ghost use Rattle.std.specs.Vec.{vec_len, vec_capacity};
 ghost use Rattle.cckd_space.specs.Pieces.{begins_by, first, last, is_reserved_at, is_used_at, is_roomy_from, is_roomy, left, replaced, settled, has_room, has_room_below, largest, summed, counted, greatest, used_len, roomy_len, used_end};
 ghost use Rattle.cckd_space.specs.Inside.{EndsAt};
 ghost use Rattle.cckd_space.specs.Blocks.{AreFilled, AreInOrder, IsFoundIn, StandsIn, StayFit, block_at, first_pos, whole};
 
 use crate::block::Block;
+use crate::finding::piece_at;
 use crate::piece::Piece;
 use crate::totals::Sums;
 use cckd_base::Owner;
@@ -70,24 +72,28 @@ pub(crate) fn reserved_in_blocks(blocks: &[Block], pos: u32) -> Option<Piece>
 }
 
 /// Turns the Reserved piece at `pos` into a Used one.
-pub(crate) fn settle_in(blocks: &mut [Block], pos: u32, len: u32, owner: Owner)
-    requires there { IsSome (first (is_reserved_at pos) (whole blocks.old)) }
-    requires filled { AreFilled blocks.old }
-    requires order { AreInOrder (whole blocks.old) }
-    ensures items { whole blocks.new ≡ replaced (is_reserved_at pos) (λ p. settled len owner p ∷ []) (whole blocks.old) }
-    ensures fit { StayFit blocks.old blocks.new }
+pub(crate) fn settle_in(blocks: &mut Vec<Block>, pos: u32, len: u32, owner: Owner)
+    requires there { IsSome (first (is_reserved_at pos) (whole blocks.old.items)) }
+    requires filled { AreFilled blocks.old.items }
+    requires order { AreInOrder (whole blocks.old.items) }
+    ensures items { whole blocks.new.items ≡ replaced (is_reserved_at pos) (λ p. settled len owner p ∷ []) (whole blocks.old.items) }
+    ensures fit { StayFit blocks.old.items blocks.new.items }
+    ensures len { vec_len blocks.new ≡ vec_len blocks.old }
+    ensures capacity { vec_capacity blocks.new ≡ vec_capacity blocks.old }
 {
     let at = block_index(blocks, pos);
     blocks[at].settle(pos, len, owner);
 }
 
 /// Turns the Used piece at `pos` into a Leaving one.
-pub(crate) fn leave_in(blocks: &mut [Block], pos: u32)
-    requires there { IsSome (first (is_used_at pos) (whole blocks.old)) }
-    requires filled { AreFilled blocks.old }
-    requires order { AreInOrder (whole blocks.old) }
-    ensures items { whole blocks.new ≡ replaced (is_used_at pos) (λ p. left p ∷ []) (whole blocks.old) }
-    ensures fit { StayFit blocks.old blocks.new }
+pub(crate) fn leave_in(blocks: &mut Vec<Block>, pos: u32)
+    requires there { IsSome (first (is_used_at pos) (whole blocks.old.items)) }
+    requires filled { AreFilled blocks.old.items }
+    requires order { AreInOrder (whole blocks.old.items) }
+    ensures items { whole blocks.new.items ≡ replaced (is_used_at pos) (λ p. left p ∷ []) (whole blocks.old.items) }
+    ensures fit { StayFit blocks.old.items blocks.new.items }
+    ensures len { vec_len blocks.new ≡ vec_len blocks.old }
+    ensures capacity { vec_capacity blocks.new ≡ vec_capacity blocks.old }
 {
     let at = block_index(blocks, pos);
     blocks[at].leave(pos);
@@ -229,4 +235,21 @@ pub(crate) fn end_in(blocks: &[Block], size: u32) -> u32
         return 0;
     }
     blocks[count - 1].free_end(size)
+}
+
+/// The piece of a number, which counts from 0.
+pub(crate) fn piece_in(blocks: &[Block], number: usize) -> Piece
+    requires { number < length (whole blocks.now) }
+    ensures { slice_get (whole blocks.now) number ≡ Some result }
+{
+    let mut left = number;
+    for block in blocks {
+        let pieces = block.pieces();
+        let count = pieces.len();
+        if left < count {
+            return piece_at(pieces, left);
+        }
+        left -= count;
+    }
+    unreachable!()
 }

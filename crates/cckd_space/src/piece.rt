@@ -24,7 +24,6 @@ ghost use Rattle.cckd_space.specs.Pieces.{
   used_len,
   roomy_len,
 };
-ghost use Rattle.cckd_space.specs.Inside.{is_open};
 
 use cckd_base::{Extent, Owner};
 
@@ -204,13 +203,6 @@ impl Piece {
         ensures { result ≡ has_room_below need before self.now }
     {
         self.has_room(need) && align(self.pos) + need as u64 <= before as u64
-    }
-
-    /// Whether it is free and offers the least that may be asked for.
-    pub(crate) fn is_open(&self) -> bool
-        ensures { result ≡ is_open self.now }
-    {
-        self.has_room(8)
     }
 
     pub(crate) fn is_leaving(&self) -> bool

@@ -16,12 +16,22 @@ fn retire_each_block(blocks: &mut [Block])
     }
 }
 
-/// Turns every Leaving piece into a Pending one.
-pub(crate) fn retire_blocks(blocks: &mut [Block])
-    ensures items { whole blocks.new ≡ map retired (whole blocks.old) }
-    ensures fit { StayFit blocks.old blocks.new }
+fn retire_every(blocks: &mut Vec<Block>)
+    ensures items { blocks.new.items ≡ map (map retired) blocks.old.items }
+    ensures len { vec_len blocks.new ≡ vec_len blocks.old }
+    ensures capacity { vec_capacity blocks.new ≡ vec_capacity blocks.old }
 {
-    retire_each_block(blocks);
+    retire_each_block(blocks.as_mut_slice());
+}
+
+/// Turns every Leaving piece into a Pending one.
+pub(crate) fn retire_blocks(blocks: &mut Vec<Block>)
+    ensures items { whole blocks.new.items ≡ map retired (whole blocks.old.items) }
+    ensures fit { StayFit blocks.old.items blocks.new.items }
+    ensures len { vec_len blocks.new ≡ vec_len blocks.old }
+    ensures capacity { vec_capacity blocks.new ≡ vec_capacity blocks.old }
+{
+    retire_every(blocks);
 }
 
 fn release_each_block(blocks: &mut [Block])

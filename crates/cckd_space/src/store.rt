@@ -5,7 +5,7 @@ ghost use Rattle.std.specs.Option.{option_map};
 ghost use Rattle.std.specs.Vec.{vec_len, vec_capacity};
 ghost use Rattle.cckd_space.specs.Pieces.{first, replaced, has_room, has_room_below, reserved_in, cut, aligned_up};
 ghost use Rattle.cckd_space.specs.Inside.{EndsAt, EndsBelow};
-ghost use Rattle.cckd_space.specs.Blocks.{AreFilled, AreFit, AreFitBut, AreInOrder, StayFit, IsDense, IsFoundIn, block_at, whole};
+ghost use Rattle.cckd_space.specs.Blocks.{AreFilled, AreFit, AreFitBut, StayFit, IsDense, IsFoundIn, block_at, whole};
 
 use crate::block::Block;
 use crate::piece::Piece;
@@ -165,11 +165,9 @@ pub(crate) fn reserve_below_in(
     need: u32,
     before: u32,
 ) -> Option<u32>
-    requires some { 8 ≤ need }
     requires found { IsFoundIn (has_room_below need before) blocks.old.items at }
     requires full { (4 ≤ full) × (full ≤ 126) }
     requires fit { AreFit full blocks.old.items }
-    requires order { AreInOrder (whole blocks.old.items) }
     requires store { 0 < vec_len store.old }
     requires ends { EndsBelow (whole blocks.old.items) (2 ^ 32) }
     requires room { vec_len blocks.old + vec_len store.old ≤ min (vec_capacity blocks.old) (vec_capacity store.old) }

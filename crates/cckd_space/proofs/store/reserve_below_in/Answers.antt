@@ -48,9 +48,3 @@ returns-clause-items c =
     let bs = c.args.blocks.now.items in
     let now = edited (replaced (has_room_below c.args.need c.args.before) (reserved_in c.args.need)) c.args.blocks.now.items c.args.at c.index_mut.result.now c.reserve_below-place.new.self c.requires.found.within c.index_mut.ensures.value c.reserve_below-place.ensures.items in
     c.cut_crowded.ensures.same ∙ (ap (λ (b : List Piece). whole (slice_set bs c.args.at b)) now ∙ replaced_in (has_room_below c.args.need c.args.before) (reserved_in c.args.need) bs c.args.at c.requires.found)
-
-pub reserve_below-place-requires-clause-order : goal.reserve_below-place-requires-clause-order
-reserve_below-place-requires-clause-order c =
-    let bs = c.args.blocks.now.items in
-    let same = get_or_read bs c.args.at c.index_mut.result.now c.requires.found.within c.index_mut.ensures.value [] in
-    subst IsInOrder (sym same) (order_by_index (block_at bs c.args.at) (order_block bs c.args.at c.requires.found.within c.requires.order))

@@ -7,9 +7,6 @@ use Rattle.cckd_space.proofs.LaidLemmas.{below_room}
 use Rattle.cckd_space.proofs.BlockMarkLemmas.{block_filled}
 use Rattle.cckd_space.proofs.block.Block.reserve_below.Goals as goal
 
-pub reserve_below-place-requires-clause-order : goal.reserve_below-place-requires-clause-order
-reserve_below-place-requires-clause-order c = subst IsInOrder (sym c.self.view_is) c.requires.order
-
 pub reserve_below-place-requires-clause-ends : goal.reserve_below-place-requires-clause-ends
 reserve_below-place-requires-clause-ends c = subst (λ (l : List Piece). EndsBelow l (2 ^ 32)) (sym c.self.view_is) c.requires.ends
 
