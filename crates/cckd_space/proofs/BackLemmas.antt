@@ -1,5 +1,5 @@
 -- A piece that is freed in its block, and the borders on both sides of the block.
-use Rattle.std.proofs.Common.{◌≡◌, ℕ, zero, suc, ◌+◌, ◌-◌, ◌<◌, ◌≤◌, ◌^◌, max, Bool, true, false, ◌&&◌, List, [], ◌∷◌, ◌++◌, length, take, drop, slice_set, refl, sym, ◌∙◌, ap, subst, arith, add-one}
+use Rattle.std.proofs.Common.{◌≡◌, ℕ, zero, suc, ◌+◌, ◌-◌, ◌<◌, ◌≤◌, max, Bool, true, false, ◌&&◌, List, [], ◌∷◌, ◌++◌, length, take, drop, slice_set, refl, sym, ◌∙◌, ap, subst, arith, add-one}
 use Rattle.std.proofs.lemmas.Bool.{cond_both}
 use Rattle.std.proofs.lemmas.List.{drop-set-lt, get_or-set_same, take-set, take-take}
 use Rattle.cckd_space.specs.declared.piece.Piece.{Piece}
@@ -7,7 +7,7 @@ use Rattle.cckd_space.specs.Pieces.{freed, largest, merged, replaced}
 use Rattle.cckd_space.specs.Inside.{AreMerged, size_of}
 use Rattle.cckd_space.specs.Blocks.{AreFilled, IsFoundIn, StayFit, block_at, ends_free, knit, starts_free, whole}
 use Rattle.cckd_space.proofs.MergeLemmas.{size_of-merged}
-use Rattle.cckd_space.proofs.BlockLemmas.{closed_by, largest_append, merged_is_merged, merged_some, no_end, replaced_in, size_of-append, whole_at, whole_set}
+use Rattle.cckd_space.proofs.BlockLemmas.{closed_by, largest_append, merged_some, no_end, replaced_in, size_of-append, whole_at, whole_set}
 use Rattle.cckd_space.proofs.OrderLemmas.{rest_none, split_whole, swapped_len}
 use Rattle.cckd_space.proofs.FitLemmas.{fit_at, fit_set, merged_left, merged_right}
 use Rattle.cckd_space.proofs.KnitLemmas.{after_front, front_closed, join_before, join_closed, join_open, knit_around, knit_size}

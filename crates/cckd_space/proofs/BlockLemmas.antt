@@ -1,6 +1,6 @@
 -- Blocks side by side: an edit inside one block is an edit of the joined list.
-use Rattle.std.proofs.Common.{◌≡◌, ℕ, zero, suc, ◌+◌, ◌<◌, ◌≤◌, ◌^◌, Bool, true, false, List, [], ◌∷◌, ◌++◌, length, map, take, drop, get_or, slice_set, Option, Some, None, refl, sym, ◌∙◌, ap, subst, arith, add-one, position, IsSome}
-use Rattle.std.specs.Option.{option_map, is_some}
+use Rattle.std.proofs.Common.{◌≡◌, ℕ, zero, suc, ◌+◌, ◌<◌, ◌≤◌, Bool, true, false, List, [], ◌∷◌, ◌++◌, length, map, take, drop, get_or, slice_set, Option, Some, None, refl, sym, ◌∙◌, ap, subst, arith, add-one, position, IsSome}
+use Rattle.std.specs.Option.{is_some}
 use Rattle.std.specs.List.{insert, remove}
 use Rattle.std.proofs.Common.{◌*◌, ◌-◌, ◌||◌, ◌⊎◌, inl, inr}
 use Rattle.std.proofs.lemmas.Bool.{cases_eq, cases_lt, cond_both}

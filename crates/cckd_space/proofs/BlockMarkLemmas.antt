@@ -1,9 +1,8 @@
 -- The marks of a block stay true.
-use Rattle.std.proofs.Common.{◌≡◌, ℕ, ◌+◌, ◌≤◌, Bool, true, false, List, [], ◌∷◌, ◌++◌, map, refl, subst, sym, ◌∙◌, ap, arith}
+use Rattle.std.proofs.Common.{◌≡◌, ℕ, ◌≤◌, Bool, true, false, List, [], ◌∷◌, map, refl, sym, ◌∙◌, ap, arith}
 use Rattle.cckd_space.specs.declared.piece.Kind.{Kind}
-use Rattle.cckd_space.specs.declared.piece.Kind.TheVariants.{Used, Free, Reserved, Leaving, Pending}
 use Rattle.cckd_space.specs.declared.piece.Piece.{Piece}
-use Rattle.cckd_space.specs.Pieces.{free_kind, is_reserved_at, is_used_at, left, replaced, reserved_in, has_room, retired, released, merged, counted, is_leaving, is_pending, leaving_kind, pending_kind, cut, freed}
+use Rattle.cckd_space.specs.Pieces.{is_reserved_at, is_used_at, left, replaced, reserved_in, has_room, retired, released, merged, counted, is_leaving, is_pending, leaving_kind, pending_kind, cut, freed}
 use Rattle.cckd_space.specs.Blocks.{AreMarked}
 use Rattle.cckd_space.proofs.LaidLemmas.{room_facts}
 use Rattle.cckd_space.proofs.CountLemmas.{one, found_reserved, found_used, count_even, count_reserved_in, count_merged, count_retired, count_released, count_cut, free_kinds}

@@ -1,13 +1,13 @@
 -- Blocks that are neither empty nor too long stay so.
-use Rattle.std.proofs.Common.{◌≡◌, ℕ, zero, suc, ◌+◌, ◌-◌, ◌<◌, ◌≤◌, Bool, true, List, [], ◌∷◌, ◌++◌, length, map, take, drop, slice_set, refl, sym, ◌∙◌, ap, subst, arith, add-one}
+use Rattle.std.proofs.Common.{◌≡◌, ℕ, zero, suc, ◌+◌, ◌<◌, ◌≤◌, Bool, true, List, [], ◌∷◌, ◌++◌, length, map, take, slice_set, refl, ap, arith}
 use Rattle.std.specs.List.{insert, remove}
 use Rattle.std.proofs.lemmas.Bool.{cond_both}
-use Rattle.std.proofs.lemmas.List.{length-append, length-drop}
+use Rattle.std.proofs.lemmas.List.{length-append}
 use Rattle.cckd_space.specs.declared.piece.Piece.{Piece}
 use Rattle.cckd_space.specs.Pieces.{aligned_up, free_run, has_room, piece_end, replaced, reserved_in, reserved_piece}
 use Rattle.cckd_space.specs.Inside.{AreMerged}
 use Rattle.cckd_space.proofs.EndLemmas.{run_one}
-use Rattle.cckd_space.specs.Blocks.{AreFilled, AreFit, AreFitBut, AreTidy, StayFit, block_at, first_size, whole}
+use Rattle.cckd_space.specs.Blocks.{AreFilled, AreFit, AreFitBut, AreTidy, StayFit, block_at, whole}
 
 pub fit_filled : (full : ℕ) (bs : List (List Piece)) → AreFit full bs → AreFilled bs
 fit_filled full [] f = tt

@@ -1,15 +1,12 @@
 -- What a `Space` keeps of its list beside the list: a bound of what is offered.
-use Rattle.std.proofs.Common.{◌≡◌, ℕ, zero, suc, ◌+◌, ◌-◌, ◌<◌, ◌≤◌, max, min, nat_lt, Bool, true, false, ◌&&◌, List, [], ◌∷◌, ◌++◌, length, take, drop, get_or, map, refl, sym, ◌∙◌, ap, subst, arith, inl, inr}
-use Rattle.std.specs.List.{position_or_len}
-use Rattle.std.proofs.lemmas.Bool.{cond_both, cases_lt, ltb-true}
+use Rattle.std.proofs.Common.{◌≡◌, ℕ, zero, suc, ◌+◌, ◌-◌, ◌<◌, ◌≤◌, max, min, nat_lt, Bool, true, false, ◌&&◌, List, [], ◌∷◌, ◌++◌, length, take, drop, get_or, map, refl, ◌∙◌, ap, arith}
+use Rattle.std.proofs.lemmas.Bool.{cond_both, ltb-true}
 use Rattle.std.proofs.lemmas.List.{get_or-append-add, length-take-le}
 use Rattle.cckd_space.specs.declared.piece.Kind.TheVariants.{Used, Free, Reserved, Leaving, Pending}
 use Rattle.cckd_space.specs.declared.piece.Piece.{Piece}
-use Rattle.cckd_space.specs.Pieces.{is_pending, is_free, replaced, free_piece, free_run, reserved_piece, reserved_in, freed, joined, merged, retired, retired_as, released, has_room, aligned_up, piece_end, offer, largest, trimmed, used_end, end_place, appended, cut, IsLaid}
-use Rattle.cckd_space.specs.Inside.{AreMerged}
+use Rattle.cckd_space.specs.Pieces.{is_free, replaced, free_piece, free_run, reserved_piece, reserved_in, freed, joined, retired, retired_as, has_room, aligned_up, piece_end, offer, largest, trimmed, used_end, end_place, appended, cut, IsLaid}
 use Rattle.cckd_space.proofs.LaidLemmas.{room_facts}
-use Rattle.cckd_space.proofs.MarkLemmas.{released_same}
-use Rattle.cckd_space.proofs.MergeLemmas.{IsFreedAt, joined_over, merged_freed}
+use Rattle.cckd_space.proofs.MergeLemmas.{IsFreedAt}
 
 pub largest_append : (xs ys : List Piece) → largest (xs ++ ys) ≡ max (largest xs) (largest ys)
 largest_append [] ys = omega arith

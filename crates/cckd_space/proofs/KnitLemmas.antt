@@ -1,9 +1,8 @@
 -- Two lists one behind the other, with the Free pieces at the border as one.
-use Rattle.std.proofs.Common.{◌≡◌, ℕ, zero, suc, ◌+◌, ◌-◌, ◌<◌, ◌≤◌, max, Bool, true, false, ◌&&◌, cond, List, [], ◌∷◌, ◌++◌, length, map, take, drop, slice_set, refl, sym, ◌∙◌, ap, subst, arith, add-one}
-use Rattle.std.specs.List.{remove}
-use Rattle.std.proofs.lemmas.List.{append_assoc, append-nil, length-append, length-drop}
+use Rattle.std.proofs.Common.{◌≡◌, ℕ, zero, suc, ◌<◌, ◌≤◌, max, Bool, true, false, ◌&&◌, List, [], ◌∷◌, ◌++◌, length, take, drop, refl, sym, ◌∙◌, ap, subst, arith}
+use Rattle.std.proofs.lemmas.List.{append_assoc, length-drop}
 use Rattle.cckd_space.specs.declared.piece.Piece.{Piece}
-use Rattle.cckd_space.specs.Pieces.{free_piece, is_free, joined, largest, merged, NotBothFree}
+use Rattle.cckd_space.specs.Pieces.{is_free, joined, largest, merged}
 use Rattle.cckd_space.specs.Inside.{AreMerged, size_of}
 use Rattle.cckd_space.specs.Blocks.{AreFilled, AreFit, AreFitBut, block_at, ends_free, first_size, grown, knit, starts_free, whole}
 use Rattle.cckd_space.proofs.MergeLemmas.{merged_same, size_of-merged}

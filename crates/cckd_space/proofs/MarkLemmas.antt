@@ -5,7 +5,7 @@ use Rattle.cckd_base.specs.declared.space.Extent.{Extent}
 use Rattle.cckd_space.specs.declared.piece.Kind.{Kind}
 use Rattle.cckd_space.specs.declared.piece.Kind.TheVariants.{Used, Free, Reserved, Leaving, Pending}
 use Rattle.cckd_space.specs.declared.piece.Piece.{Piece}
-use Rattle.cckd_space.specs.Pieces.{free_kind, first, replaced, reserved_in, is_reserved_at, is_used_at, has_room, left, appended, cut, retired, retired_as, released, released_as, merged, counted, pieces_of, is_leaving, is_pending, leaving_kind, pending_kind}
+use Rattle.cckd_space.specs.Pieces.{first, replaced, reserved_in, is_reserved_at, is_used_at, has_room, left, appended, cut, retired, retired_as, released, released_as, merged, counted, pieces_of, is_leaving, is_pending, leaving_kind, pending_kind}
 use Rattle.cckd_space.specs.Inside.{AreMerged, IsMarked}
 use Rattle.cckd_space.proofs.LaidLemmas.{room_facts}
 use Rattle.cckd_space.proofs.MergeLemmas.{merged_same}

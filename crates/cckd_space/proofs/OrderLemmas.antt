@@ -1,5 +1,5 @@
 -- Where a piece that begins at a place stands among blocks in order.
-use Rattle.std.proofs.Common.{◌≡◌, ◌⊎◌, ℕ, zero, suc, ◌+◌, ◌-◌, ◌<◌, ◌≤◌, Bool, true, false, List, [], ◌∷◌, ◌++◌, length, take, drop, get_or, slice_set, min, nat_le, Option, Some, None, IsSome, refl, sym, ◌∙◌, ap, subst, inl, inr, arith, add-one}
+use Rattle.std.proofs.Common.{◌≡◌, ℕ, zero, suc, ◌+◌, ◌-◌, ◌<◌, ◌≤◌, Bool, true, false, List, [], ◌∷◌, ◌++◌, length, take, drop, get_or, slice_set, min, nat_le, Option, Some, None, IsSome, refl, sym, ◌∙◌, ap, subst, inl, inr, arith, add-one}
 use Rattle.std.proofs.lemmas.Bool.{and_parts, cases_lt, cond_both, false_from_ne_true, le-leb, leb-true, lt-leb}
 use Rattle.std.proofs.lemmas.List.{append_assoc, append-nil, get_or-take, get_or_read, length-take-le, take-take}
 use Rattle.std.specs.Option.{option_or}
@@ -11,7 +11,7 @@ use Rattle.cckd_space.specs.Blocks.{block_at, whole, AreFilled, AreInOrder, firs
 use Rattle.cckd_space.proofs.CallerLemmas.{laid_has}
 use Rattle.cckd_space.proofs.LaidLemmas.{up}
 use Rattle.cckd_space.proofs.SearchLemmas.{too_near}
-use Rattle.cckd_space.proofs.BlockLemmas.{whole_at, whole_set, first_in, first_behind, replaced_in}
+use Rattle.cckd_space.proofs.BlockLemmas.{whole_at, whole_set, first_behind}
 
 pub has_left : (p : Piece) (xs ys : List Piece) → Has p xs → Has p (xs ++ ys)
 has_left p [] ys h = absurd h

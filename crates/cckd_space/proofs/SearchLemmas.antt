@@ -1,14 +1,13 @@
 -- A search in a part of the list, outside which nothing passes.
-use Rattle.std.proofs.Common.{◌≡◌, ℕ, max, zero, suc, ◌+◌, ◌-◌, ◌<◌, ◌≤◌, nat_le, Bool, true, false, cond, ◌&&◌, ◌==◌, List, [], ◌∷◌, length, take, drop, get_or, Option, Some, None, refl, sym, ◌∙◌, ap, subst, arith, add-one, position, nat_lt, IsSome, inl, inr}
+use Rattle.std.proofs.Common.{◌≡◌, ℕ, zero, suc, ◌+◌, ◌-◌, ◌<◌, ◌≤◌, nat_le, Bool, true, false, cond, ◌&&◌, ◌==◌, List, [], ◌∷◌, length, take, drop, get_or, Option, Some, None, refl, sym, ◌∙◌, ap, subst, arith, position, nat_lt, IsSome, inl, inr}
 use Rattle.std.specs.List.{position_or_len}
 use Rattle.std.proofs.lemmas.Bool.{lt-ltb, le-ltb, cases_lt, ltb-false, and_parts, leb-true, le-leb, lt-leb, eqb-true, false_from_ne_true}
 use Rattle.std.proofs.lemmas.List.{get_or-take, get_or-drop, length-take, length-drop}
 use Rattle.cckd_base.specs.declared.space.Owner.TheVariants.{Nobody}
 use Rattle.cckd_space.specs.declared.piece.Kind.TheVariants.{Used}
 use Rattle.cckd_space.specs.declared.piece.Piece.{Piece}
-use Rattle.cckd_space.specs.Pieces.{begins_by, last, is_free, is_roomy, is_roomy_from, is_reserved_at, is_used_at, used_kind, reserved_kind, has_room, has_room_below, aligned_up, piece_end, first, IsLaid}
+use Rattle.cckd_space.specs.Pieces.{begins_by, last, is_roomy, is_roomy_from, is_reserved_at, is_used_at, used_kind, reserved_kind, first, IsLaid}
 use Rattle.cckd_space.specs.Inside.{IsInOrder, StartsAt}
-use Rattle.cckd_space.proofs.LaidLemmas.{room_facts}
 use Rattle.cckd_space.proofs.FirstLemmas.{IsFirstAt, first_at, is_first, none_passes}
 
 module _ (test : Piece → Bool) where

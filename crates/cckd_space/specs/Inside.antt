@@ -1,7 +1,7 @@
 -- What always holds of the fields of a `Space`, and words for its parts.
-use Rattle.std.specs.Prelude.{◌≡◌, ℕ, zero, suc, ◌+◌, ◌<◌, ◌≤◌, nat_lt, Bool, false, List, [], ◌∷◌, ◌++◌, length, slice_index_or}
+use Rattle.std.specs.Prelude.{◌≡◌, ℕ, ◌+◌, ◌<◌, ◌≤◌, nat_lt, Bool, List, [], ◌∷◌, ◌++◌, length, slice_index_or}
 use Rattle.cckd_space.specs.declared.piece.Piece.{Piece}
-use Rattle.cckd_space.specs.Pieces.{NotBothFree, IsLaid, counted, is_leaving, is_pending, has_room, largest, piece_end}
+use Rattle.cckd_space.specs.Pieces.{NotBothFree, IsLaid, counted, is_leaving, is_pending, largest, piece_end}
 
 -- one mark says whether there is a Leaving piece, the other whether there is a Pending one
 pub record IsMarked (pieces : List Piece) (leaving pending : Bool) : Type 0 where

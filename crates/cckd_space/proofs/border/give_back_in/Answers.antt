@@ -1,15 +1,14 @@
-use Rattle.std.proofs.Common.{◌≡◌, ◌+◌, ◌-◌, ◌*◌, ◌<◌, ◌≤◌, ◌^◌, ◌++◌, ◌∷◌, ◌&&◌, [], ℕ, suc, max, Bool, true, false, IsSome, Option, List, length, take, drop, slice_set, refl, sym, ◌∙◌, ap, subst, arith, add-one}
-use Rattle.std.proofs.lemmas.List.{get_or_read, get_or-set_same, length-set, length-take, length-take-le, take-set}
+use Rattle.std.proofs.Common.{◌≡◌, ◌≤◌, ◌∷◌, [], ℕ, suc, IsSome, List, length, take, drop, slice_set, sym, ◌∙◌, ap, subst, arith}
+use Rattle.std.proofs.lemmas.List.{get_or_read, length-take, length-take-le, take-set}
 use Rattle.cckd_space.specs.declared.piece.Piece.{Piece}
 use Rattle.cckd_space.specs.Pieces.{first, freed, is_reserved_at, largest, merged, replaced}
 use Rattle.cckd_space.specs.Inside.{AreMerged, IsInOrder, size_of}
-use Rattle.cckd_space.specs.Blocks.{AreFilled, AreFit, AreFitBut, AreInOrder, IsFoundIn, StandsIn, StayFit, block_at, ends_free, knit, starts_free, whole}
+use Rattle.cckd_space.specs.Blocks.{IsFoundIn, StandsIn, block_at, knit, whole}
 use Rattle.cckd_space.proofs.SearchLemmas.{reserved_there}
-use Rattle.cckd_space.proofs.BlockLemmas.{closed_by, closed_is, merged_is_merged, size_at}
-use Rattle.cckd_space.proofs.OrderLemmas.{edited, filled_at, first_stands, found_stands, order_block, order_by_index, some_block}
+use Rattle.cckd_space.proofs.BlockLemmas.{merged_is_merged, size_at}
+use Rattle.cckd_space.proofs.OrderLemmas.{edited, filled_at, found_stands, order_block, order_by_index, some_block}
 use Rattle.cckd_space.proofs.FitLemmas.{stay_filled}
-use Rattle.cckd_space.proofs.KnitLemmas.{fit_closed, join_offers}
-use Rattle.cckd_space.proofs.BackLemmas.{apart_behind, apart_here, before_joined, behind_joined, first_joined, freed_whole, given_fit, given_size, given_some, joined_closed, joined_front, joined_none, joined_open, largest_set, size_joined, size_set}
+use Rattle.cckd_space.proofs.BackLemmas.{apart_behind, apart_here, before_joined, behind_joined, first_joined, freed_whole, given_fit, given_size, given_some, largest_set, size_joined, size_set}
 use Rattle.cckd_space.proofs.border.give_back_in.Goals as goal
 
 found_is : (pos : ℕ) (bs l : List (List Piece)) (at : ℕ) → l ≡ bs → StandsIn pos l at → IsSome (first (is_reserved_at pos) (whole bs)) → IsFoundIn (is_reserved_at pos) bs at

@@ -1,15 +1,11 @@
-use Rattle.std.proofs.Common.{◌≡◌, ◌+◌, ◌-◌, ◌*◌, ◌<◌, ◌≤◌, ◌^◌, ◌++◌, ◌∷◌, ◌&&◌, [], ℕ, suc, max, Bool, true, false, IsSome, Option, List, length, take, drop, slice_set, refl, sym, ◌∙◌, ap, subst, arith, add-one}
-use Rattle.std.proofs.lemmas.List.{get_or_read, get_or-set_same, length-set}
+use Rattle.std.proofs.Common.{◌+◌, [], ℕ, suc, List, take, sym, ◌∙◌, ap, subst, arith, add-one}
+use Rattle.std.proofs.lemmas.List.{get_or_read}
 use Rattle.cckd_space.specs.declared.piece.Piece.{Piece}
-use Rattle.cckd_space.specs.Pieces.{first, freed, is_reserved_at, largest, merged, replaced}
-use Rattle.cckd_space.specs.Inside.{AreMerged, IsInOrder, size_of}
-use Rattle.cckd_space.specs.Blocks.{AreFilled, AreFit, AreFitBut, AreInOrder, IsFoundIn, StandsIn, StayFit, block_at, ends_free, knit, starts_free, whole}
-use Rattle.cckd_space.proofs.SearchLemmas.{reserved_there}
-use Rattle.cckd_space.proofs.BlockLemmas.{closed_by, closed_is, merged_is_merged, size_at}
-use Rattle.cckd_space.proofs.OrderLemmas.{edited, filled_at, first_stands, found_stands, order_block, order_by_index, some_block}
-use Rattle.cckd_space.proofs.FitLemmas.{stay_filled}
+use Rattle.cckd_space.specs.Pieces.{largest}
+use Rattle.cckd_space.specs.Blocks.{AreFitBut, block_at, whole}
+use Rattle.cckd_space.proofs.BlockLemmas.{closed_is}
 use Rattle.cckd_space.proofs.KnitLemmas.{fit_closed, join_offers}
-use Rattle.cckd_space.proofs.BackLemmas.{apart_behind, apart_here, before_joined, behind_joined, first_joined, freed_whole, given_fit, given_size, given_some, joined_closed, joined_front, joined_none, joined_open, largest_set, size_joined, size_set}
+use Rattle.cckd_space.proofs.BackLemmas.{joined_closed, joined_front, joined_none, joined_open}
 use Rattle.cckd_space.proofs.border.join_border.Goals as goal
 
 pub returns-then-len-at-clause-items : goal.returns-then-len-at-clause-items

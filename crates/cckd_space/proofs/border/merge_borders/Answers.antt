@@ -1,12 +1,8 @@
-use Rattle.std.proofs.Common.{◌≡◌, ℕ, ◌+◌, ◌-◌, ◌<◌, ◌≤◌, ◌^◌, ◌++◌, List, length, map, take, drop, rules, sym, ◌∙◌, ap, subst, arith}
-use Rattle.std.specs.Vec.{vec_len, vec_capacity}
-use Rattle.std.proofs.lemmas.List.Edits.{map_over_more}
-use Rattle.cckd_space.specs.declared.piece.Piece.{Piece}
-use Rattle.cckd_space.specs.Pieces.{merged, released}
-use Rattle.cckd_space.specs.Inside.{AreMerged, size_of}
-use Rattle.cckd_space.specs.Blocks.{whole, AreClosed, AreTidy}
+use Rattle.std.proofs.Common.{◌∙◌, ap, arith}
+use Rattle.cckd_space.specs.Inside.{size_of}
+use Rattle.cckd_space.specs.Blocks.{whole}
 use Rattle.cckd_space.proofs.MergeLemmas.{size_of-merged}
-use Rattle.cckd_space.proofs.BlockLemmas.{whole_merged, tidy_at, size_at, at_rest, tidy_released, released_blocks, size_of-released}
+use Rattle.cckd_space.proofs.BlockLemmas.{whole_merged}
 use Rattle.cckd_space.proofs.border.merge_borders.Goals as goal
 
 pub loop-at-smaller : goal.loop-at-smaller

@@ -1,9 +1,9 @@
-use Rattle.std.proofs.Common.{◌≡◌, ◌+◌, ◌<◌, ◌≤◌, ◌^◌, ◌++◌, ◌∷◌, [], List, length, drop, get_or, sym, ◌∙◌, ap, subst, arith}
-use Rattle.std.proofs.lemmas.List.{drop_more, length-append}
+use Rattle.std.proofs.Common.{◌+◌, ◌∷◌, List, drop, get_or, subst, arith}
+use Rattle.std.proofs.lemmas.List.{drop_more}
 use Rattle.cckd_base.specs.declared.space.Owner.TheVariants.{Nobody}
 use Rattle.cckd_base.specs.declared.space.Extent.{Extent}
 use Rattle.cckd_base.specs.Survey.{StandApart}
-use Rattle.cckd_space.specs.Pieces.{free_run, pieces_of, used_piece}
+use Rattle.cckd_space.specs.Pieces.{pieces_of}
 use Rattle.cckd_space.proofs.LaidLemmas.{laid_long, laid_pieces_of, used_le}
 use Rattle.cckd_space.proofs.EndLemmas.{run_one}
 use Rattle.cckd_space.proofs.making.count_pieces.Goals as goal

@@ -1,8 +1,4 @@
-use Rattle.std.proofs.Common.{◌≡◌, ◌<◌, ◌≤◌, ℕ, List, [], ◌∷◌, length, true, refl, sym, ◌∙◌, ap, subst, arith, IsSome, Option, slice_set}
-use Rattle.cckd_space.specs.declared.piece.Piece.{Piece}
-use Rattle.cckd_space.specs.Pieces.{first, is_reserved_at, is_used_at, largest, left, replaced, settled}
-use Rattle.cckd_space.specs.Inside.{IsInOrder}
-use Rattle.cckd_space.specs.Blocks.{AreFilled, AreInOrder, AreMarked, StandsIn, block_at, ends_free, first_pos, starts_by, whole}
+use Rattle.std.proofs.Common.{arith}
 use Rattle.cckd_space.proofs.OrderLemmas.{stands_in}
 use Rattle.cckd_space.proofs.order.block_index.Goals as goal
 

@@ -1,5 +1,5 @@
-use Rattle.std.proofs.Common.{◌≡◌, ◌+◌, ◌≤◌, max, length, drop}
-use Rattle.cckd_space.specs.Pieces.{counted, first, greatest, is_roomy, is_roomy_from, largest, roomy_len, summed, used_len}
+use Rattle.std.proofs.Common.{◌≤◌, max, drop}
+use Rattle.cckd_space.specs.Pieces.{largest}
 use Rattle.cckd_space.specs.Blocks.{whole}
 use Rattle.cckd_space.proofs.order.bound_in.Given as goal
 

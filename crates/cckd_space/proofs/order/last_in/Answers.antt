@@ -1,10 +1,9 @@
-use Rattle.std.proofs.Common.{◌≡◌, ◌<◌, ◌≤◌, ◌-◌, ℕ, List, [], ◌∷◌, length, true, refl, sym, ◌∙◌, ap, subst, arith, IsSome, Option, get_or, slice_set}
-use Rattle.cckd_space.specs.declared.piece.Piece.{Piece}
-use Rattle.cckd_space.specs.Pieces.{begins_by, first, is_reserved_at, is_used_at, last, largest, left, replaced, settled}
+use Rattle.std.proofs.Common.{◌<◌, ◌-◌, [], length, sym, ◌∙◌, ap, subst, arith}
+use Rattle.cckd_space.specs.Pieces.{begins_by, last}
 use Rattle.cckd_space.specs.Inside.{IsInOrder}
-use Rattle.cckd_space.specs.Blocks.{AreFilled, AreInOrder, AreMarked, StandsIn, block_at, ends_free, first_pos, starts_by, whole}
+use Rattle.cckd_space.specs.Blocks.{block_at}
 use Rattle.std.proofs.lemmas.List.{get_or_read}
-use Rattle.cckd_space.proofs.OrderLemmas.{last_stands, none_stands, order_block, order_by_index, read_at}
+use Rattle.cckd_space.proofs.OrderLemmas.{last_stands, none_stands, order_block, order_by_index}
 use Rattle.cckd_space.proofs.order.last_in.Goals as goal
 
 pub returns-then-count-eq0 : goal.returns-then-count-eq0

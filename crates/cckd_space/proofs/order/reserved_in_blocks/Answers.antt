@@ -1,8 +1,7 @@
-use Rattle.std.proofs.Common.{◌≡◌, ◌<◌, ◌≤◌, ◌-◌, ℕ, List, [], ◌∷◌, length, true, refl, sym, ◌∙◌, ap, subst, arith, IsSome, Option, get_or, slice_set}
-use Rattle.cckd_space.specs.declared.piece.Piece.{Piece}
-use Rattle.cckd_space.specs.Pieces.{begins_by, first, is_reserved_at, is_used_at, last, largest, left, replaced, settled}
+use Rattle.std.proofs.Common.{[], sym, ◌∙◌, ap, subst, arith}
+use Rattle.cckd_space.specs.Pieces.{first, is_reserved_at}
 use Rattle.cckd_space.specs.Inside.{IsInOrder}
-use Rattle.cckd_space.specs.Blocks.{AreFilled, AreInOrder, AreMarked, StandsIn, block_at, ends_free, first_pos, starts_by, whole}
+use Rattle.cckd_space.specs.Blocks.{block_at}
 use Rattle.std.proofs.lemmas.List.{get_or_read}
 use Rattle.cckd_space.proofs.SearchLemmas.{reserved_there}
 use Rattle.cckd_space.proofs.OrderLemmas.{first_stands, nothing_found, order_block, order_by_index}

@@ -1,13 +1,11 @@
-use Rattle.std.proofs.Common.{◌≡◌, ℕ, ◌+◌, ◌-◌, ◌<◌, ◌≤◌, ◌^◌, ◌++◌, List, length, map, take, drop, rules, sym, ◌∙◌, ap, subst, arith}
-use Rattle.std.specs.Vec.{vec_len, vec_capacity}
+use Rattle.std.proofs.Common.{◌≡◌, List, length, map, sym, ◌∙◌, ap, subst, arith}
 use Rattle.std.proofs.lemmas.List.{length-map}
-use Rattle.std.proofs.lemmas.List.Edits.{map_over_more}
 use Rattle.cckd_space.specs.declared.piece.Piece.{Piece}
 use Rattle.cckd_space.specs.Pieces.{merged, released}
-use Rattle.cckd_space.specs.Inside.{AreMerged, size_of}
-use Rattle.cckd_space.specs.Blocks.{whole, AreClosed, AreFit, AreTidy}
+use Rattle.cckd_space.specs.Inside.{size_of}
+use Rattle.cckd_space.specs.Blocks.{whole, AreFit, AreTidy}
 use Rattle.cckd_space.proofs.MergeLemmas.{size_of-merged}
-use Rattle.cckd_space.proofs.BlockLemmas.{whole_merged, tidy_at, size_at, at_rest, tidy_released, released_blocks, size_of-released}
+use Rattle.cckd_space.proofs.BlockLemmas.{tidy_released, released_blocks, size_of-released}
 use Rattle.cckd_space.proofs.FitLemmas.{fit_mapped}
 use Rattle.cckd_space.proofs.BlockLemmas.{merged_some}
 use Rattle.cckd_space.proofs.MergeLemmas.{merged_fewer}

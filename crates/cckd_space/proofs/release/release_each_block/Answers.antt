@@ -1,12 +1,9 @@
-use Rattle.std.proofs.Common.{◌≡◌, ℕ, ◌+◌, ◌-◌, ◌<◌, ◌≤◌, ◌^◌, ◌++◌, List, length, map, take, drop, slice_set, rules, sym, ◌∙◌, ap, subst, arith}
-use Rattle.std.specs.Vec.{vec_len, vec_capacity}
+use Rattle.std.proofs.Common.{◌<◌, List, length, map, slice_set, sym, ◌∙◌, ap, subst, arith}
 use Rattle.std.proofs.lemmas.List.Edits.{map_over_more}
 use Rattle.cckd_space.specs.declared.piece.Piece.{Piece}
 use Rattle.cckd_space.specs.Pieces.{merged, released}
 use Rattle.cckd_space.specs.Inside.{AreMerged, size_of}
-use Rattle.cckd_space.specs.Blocks.{whole, AreClosed, AreTidy}
-use Rattle.cckd_space.proofs.MergeLemmas.{size_of-merged}
-use Rattle.cckd_space.proofs.BlockLemmas.{whole_merged, tidy_at, size_at, at_rest, tidy_released, released_blocks, size_of-released}
+use Rattle.cckd_space.proofs.BlockLemmas.{tidy_at, size_at, at_rest}
 use Rattle.cckd_space.proofs.release.release_each_block.Goals as goal
 
 pub release-requires-clause-apart : goal.release-requires-clause-apart

@@ -1,15 +1,11 @@
-use Rattle.std.proofs.Common.{◌≡◌, ◌+◌, ◌-◌, ◌*◌, ◌/◌, ◌<◌, ◌≤◌, ◌^◌, ◌++◌, ◌∷◌, [], ℕ, Option, List, length, take, drop, slice_set, refl, sym, ◌∙◌, ap, subst, arith, add-one}
-use Rattle.std.specs.Option.{option_map}
-use Rattle.std.specs.List.{insert, remove}
-use Rattle.std.specs.Vec.{vec_len, vec_capacity}
-use Rattle.std.proofs.lemmas.List.{get_or_read, get_or-set_same, length-append, length-drop, length-set, length-take, take-append-drop}
+use Rattle.std.proofs.Common.{◌≡◌, ◌+◌, ◌-◌, ◌<◌, ◌++◌, [], List, length, take, sym, ◌∙◌, ap, subst, arith}
+use Rattle.std.proofs.lemmas.List.{get_or_read}
 use Rattle.cckd_space.specs.declared.piece.Piece.{Piece}
-use Rattle.cckd_space.specs.Pieces.{aligned_up, cut, first, has_room, has_room_below, replaced, reserved_in}
-use Rattle.cckd_space.specs.Inside.{EndsAt, EndsBelow, IsInOrder}
-use Rattle.cckd_space.specs.Blocks.{AreFit, AreFitBut, AreInOrder, block_at, IsDense, whole}
-use Rattle.cckd_space.proofs.BlockLemmas.{dense_few, dense_more, dense_united, ends_in, first_in, nil_of, replaced_in, whole_append, whole_inserted, whole_set, whole_united_at, whole_without}
-use Rattle.cckd_space.proofs.OrderLemmas.{cut_last, edited, whole_set_last, ends_at_last, filled_at, none_filled, order_block, order_by_index, whole_grown, whole_last}
-use Rattle.cckd_space.proofs.FitLemmas.{but_at, fit_at, fit_but, fit_cut, fit_dropped, fit_even, fit_of_but, fit_pushed, fit_set, fit_united, take_remove}
+use Rattle.cckd_space.specs.Pieces.{cut}
+use Rattle.cckd_space.specs.Inside.{EndsAt}
+use Rattle.cckd_space.specs.Blocks.{block_at, whole}
+use Rattle.cckd_space.proofs.OrderLemmas.{cut_last, edited, whole_set_last, ends_at_last, filled_at, none_filled, whole_last}
+use Rattle.cckd_space.proofs.FitLemmas.{fit_at, fit_but}
 use Rattle.cckd_space.proofs.EndLemmas.{cut_none}
 use Rattle.cckd_space.proofs.store.cut_last.Goals as goal
 

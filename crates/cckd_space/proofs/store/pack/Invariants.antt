@@ -1,4 +1,4 @@
-use Rattle.std.proofs.Common.{◌≡◌, ◌+◌, ◌-◌, ◌<◌, ◌≤◌, min}
+use Rattle.std.proofs.Common.{◌≡◌, ◌+◌, ◌-◌, ◌≤◌, min}
 use Rattle.std.specs.Vec.{vec_len, vec_capacity}
 use Rattle.cckd_space.specs.Blocks.{AreFit, whole, IsDense}
 use Rattle.cckd_space.proofs.store.pack.Given as goal

@@ -1,6 +1,6 @@
 use Rattle.std.proofs.Common.{◌≡◌, ◌∷◌, [], true, false, List, sym, ◌∙◌, ap, subst, arith}
 use Rattle.cckd_space.specs.declared.piece.Piece.{Piece}
-use Rattle.cckd_space.specs.Pieces.{freed, is_reserved_at, largest, merged, replaced}
+use Rattle.cckd_space.specs.Pieces.{freed, is_reserved_at, merged, replaced}
 use Rattle.cckd_space.specs.Blocks.{AreMarked}
 use Rattle.cckd_space.proofs.MergeLemmas.{given_back}
 use Rattle.cckd_space.proofs.BlockMarkLemmas.{block_given_back}

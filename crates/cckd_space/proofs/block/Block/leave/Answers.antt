@@ -1,8 +1,7 @@
-use Rattle.std.proofs.Common.{◌≡◌, ◌<◌, ◌≤◌, ℕ, List, [], ◌∷◌, length, true, false, refl, sym, ◌∙◌, ap, subst, arith, IsSome, Option, slice_set}
+use Rattle.std.proofs.Common.{◌≡◌, List, true, false, refl, sym, ap, subst, arith}
 use Rattle.cckd_space.specs.declared.piece.Piece.{Piece}
-use Rattle.cckd_space.specs.Pieces.{first, is_reserved_at, is_used_at, largest, left, replaced, settled}
-use Rattle.cckd_space.specs.Inside.{IsInOrder}
-use Rattle.cckd_space.specs.Blocks.{AreFilled, AreInOrder, AreMarked, StandsIn, block_at, ends_free, first_pos, starts_by, whole}
+use Rattle.cckd_space.specs.Pieces.{is_used_at, largest, left}
+use Rattle.cckd_space.specs.Blocks.{AreMarked}
 use Rattle.cckd_space.proofs.KeptLemmas.{largest_swapped}
 use Rattle.cckd_space.proofs.BlockMarkLemmas.{block_left}
 use Rattle.cckd_space.proofs.block.Block.leave.Goals as goal

@@ -1,4 +1,4 @@
-use Rattle.std.proofs.Common.{true, false, ◌≡◌, ◌<◌, ◌^◌, List, length, map, sym, ap, subst, arith, ◌∙◌}
+use Rattle.std.proofs.Common.{false, ◌≡◌, List, map, sym, ap, subst, arith, ◌∙◌}
 use Rattle.cckd_space.specs.declared.piece.Piece.{Piece}
 use Rattle.cckd_space.specs.Pieces.{released, merged, largest}
 use Rattle.cckd_space.specs.Inside.{AreMerged, size_of}

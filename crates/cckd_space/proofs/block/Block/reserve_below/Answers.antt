@@ -1,7 +1,7 @@
-use Rattle.std.proofs.Common.{◌≡◌, ◌<◌, ◌≤◌, ◌^◌, ℕ, List, [], ◌∷◌, length, true, false, refl, sym, ◌∙◌, ap, subst, arith}
+use Rattle.std.proofs.Common.{◌≡◌, ◌^◌, List, length, true, false, sym, ap, subst, arith}
 use Rattle.cckd_space.specs.declared.piece.Piece.{Piece}
 use Rattle.cckd_space.specs.Pieces.{has_room_below, largest}
-use Rattle.cckd_space.specs.Inside.{EndsBelow, IsInOrder}
+use Rattle.cckd_space.specs.Inside.{EndsBelow}
 use Rattle.cckd_space.specs.Blocks.{AreMarked}
 use Rattle.cckd_space.proofs.LaidLemmas.{below_room}
 use Rattle.cckd_space.proofs.BlockMarkLemmas.{block_filled}

@@ -1,6 +1,5 @@
-use Rattle.std.proofs.Common.{sym, ap, subst, arith}
+use Rattle.std.proofs.Common.{sym, ap, arith}
 use Rattle.cckd_space.specs.Pieces.{largest}
-use Rattle.cckd_space.specs.Inside.{IsInOrder}
 use Rattle.cckd_space.proofs.NumberLemmas.{no_roomy}
 use Rattle.cckd_space.proofs.block.Block.roomy_from.Goals as goal
 
