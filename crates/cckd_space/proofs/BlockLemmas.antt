@@ -231,16 +231,6 @@ released_blocks (b ∷ bs) =
     ∙ (ap (λ (l : List Piece). merged (map released b ++ l)) (released_blocks bs)
     ∙ (merged_behind_too (map released b) (map released (whole bs)) ∙ ap merged (sym (map-append released b (whole bs))))))
 
--- two free pieces side by side are as one
-pub merged_border : (xs : List Piece) (x y : Piece) (ys : List Piece) → is_free x ≡ true → is_free y ≡ true
-    → merged (xs ++ (free_piece x.pos (x.size + y.size) ∷ ys)) ≡ merged (xs ++ (x ∷ y ∷ ys))
-merged_border [] x y ys a b = sym (joined_twice x y (merged ys) a b)
-merged_border (z ∷ zs) x y ys a b = ap (joined z) (merged_border zs x y ys a b)
-
--- a list ends with its last piece
-pub front_last : (xs : List Piece) (n : ℕ) (d : Piece) → length xs ≡ n + 1 → xs ≡ take n xs ++ get_or xs n d ∷ []
-front_last xs n d h = sym (take_all (n + 1) xs (omega (arith, h))) ∙ take_more xs n d (omega (arith, h))
-
 -- The number of blocks.
 
 -- of dense blocks there are few

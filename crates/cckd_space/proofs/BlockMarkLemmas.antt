@@ -1,5 +1,5 @@
 -- The marks of a block stay true.
-use Rattle.std.proofs.Common.{◌≡◌, ℕ, ◌≤◌, Bool, true, false, List, [], ◌∷◌, map, refl, sym, ◌∙◌, ap, arith}
+use Rattle.std.proofs.Common.{◌≡◌, ℕ, ◌≤◌, Bool, true, false, List, [], ◌∷◌, drop, map, refl, sym, ◌∙◌, ap, arith}
 use Rattle.cckd_space.specs.declared.piece.Kind.{Kind}
 use Rattle.cckd_space.specs.declared.piece.Piece.{Piece}
 use Rattle.cckd_space.specs.Pieces.{is_reserved_at, is_used_at, left, replaced, reserved_in, has_room, retired, released, merged, counted, is_leaving, is_pending, leaving_kind, pending_kind, cut, freed}
@@ -70,3 +70,8 @@ block_given_back pos ps leaving pending m =
     let b = count_merged pending_kind refl now in
     block_fewer now (merged now) leaving pending (omega (arith, a)) (omega (arith, b))
     (block_settled pos freed (λ p. refl) (λ p. refl) ps leaving pending m)
+
+-- without its first piece
+pub block_rest : (ps : List Piece) (leaving pending : Bool) → AreMarked ps leaving pending → AreMarked (drop 1 ps) leaving pending
+block_rest [] leaving pending m = m
+block_rest (p ∷ ps) leaving pending m = block_fewer (p ∷ ps) ps leaving pending (omega arith) (omega arith) m

@@ -55,9 +55,6 @@ knit_around xs ys zs a b =
     ∙ (ap (λ (l : List Piece). merged (xs ++ l)) (sym (merged_before ys zs) ∙ knit_merged (merged ys) zs y b)
     ∙ knit_merged xs (knit (merged ys) zs) a (knit_is_merged (merged ys) zs y b))
 
-pub knit_nothing : (ys zs : List Piece) → AreMerged zs → merged (ys ++ zs) ≡ knit (merged ys) zs
-knit_nothing ys zs b = sym (merged_before ys zs) ∙ knit_merged (merged ys) zs (merged_is_merged ys) b
-
 ends_behind : (zs xs : List Piece) → 0 < length xs → ends_free (zs ++ xs) ≡ ends_free xs
 ends_behind [] xs l = refl
 ends_behind (z ∷ []) [] l = absurd (omega arith)

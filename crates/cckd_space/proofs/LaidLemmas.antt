@@ -246,9 +246,6 @@ laid_freed test ps end h = laid-merged 0 (replaced test (λ p. freed p ∷ []) p
 pub laid_released : (ps : List Piece) (end : ℕ) → IsLaid 0 ps end → IsLaid 0 (merged (map released ps)) end
 laid_released ps end h = laid-merged 0 (map released ps) end (released_row ps end h)
 
-pub released_size : (ps : List Piece) (end : ℕ) → IsLaid 0 ps end → size_of (map released ps) ≡ end
-released_size ps end h = let r = row_size 0 (map released ps) end (released_row ps end h) in omega (arith, r)
-
 apart-trimmed : (p q : Piece) (qs tail : List Piece) → NotBothFree p (q ∷ qs) → NotBothFree p (trimmed (q ∷ qs) ++ tail)
 apart-trimmed p q [] tail h =
     cond_both (is_free q) [] (q ∷ []) (λ (l : List Piece). NotBothFree p (l ++ tail))

@@ -39,17 +39,6 @@ none_offered need some (x ∷ xs) e = by (has_room need x) refl (none_offered ne
         let o = no_offer need x some f in
         omega (arith, r, o)
 
-pub none_large : (need : ℕ) → 0 < need → (xs : List Piece) → position (has_room need) xs ≡ None → largest xs < need
-none_large need some xs e = none_offered need some xs (none_passes (has_room need) xs e)
-
-pub some_large : (need : ℕ) (xs : List Piece) (i : ℕ) → position (has_room need) xs ≡ Some i → need ≤ largest xs
-some_large need xs i e =
-    let d : Piece = record { pos = 0; len = 0; size = 0; kind = Used; owner = Nobody } in
-    let f = is_first (has_room need) xs i d e in
-    let o = offers need (get_or xs i d) f.here in
-    let g = greatest_ge offer xs i d f.within in
-    omega (arith, o, g)
-
 offer_le : (p : Piece) (end : ℕ) → piece_end p ≤ end → offer p ≤ end
 offer_le p end h = cond_both (is_free p) (piece_end p - aligned_up p.pos) 0 (λ (n : ℕ). n ≤ end) (λ e. omega arith) (λ e. omega arith)
 
@@ -93,16 +82,6 @@ largest_fits at (p ∷ ps) end h =
     let s = laid_le (at + p.size) ps end h.2 in
     let o = offer_le p end (omega (arith, s, h.0.place)) in
     omega (arith, r, o)
-
-pub found_free : (from : ℕ) (xs ys : List Piece) (i : ℕ) (x : Piece) → position (is_roomy_from from) ys ≡ Some i → ys ≡ xs → x ≡ get_or xs i x → Some (x.pos, x.size) ≡ free_from from xs
-found_free from xs ys i x e s r =
-    let f = first_at (is_roomy_from from) xs i x (is_first (is_roomy_from from) xs i x (rw (← s) e)) in
-    rw f (ap (λ (p : Piece). Some (p.pos, p.size)) r)
-
-pub no_free : (from : ℕ) (xs ys : List Piece) → position (is_roomy_from from) ys ≡ None → ys ≡ xs → None ≡ free_from from xs
-no_free from xs ys e s =
-    let f = none_passes (is_roomy_from from) xs (rw (← s) e) in
-    rw f refl
 
 pub small_none : (test : Piece → Bool) (need : ℕ) → ((p : Piece) → test p ≡ true → has_room need p ≡ true) → (xs : List Piece) → largest xs < need → position test xs ≡ None
 small_none test need has xs h =

@@ -97,9 +97,6 @@ module _ (test : Piece → Bool) where
         ]
       ])
 
-free_first : (a b : Bool) → a ≡ false → (a && b) ≡ false
-free_first a b e = rw e refl
-
 -- a piece that starts before a place isn't one from it on
 pub too_near : (from : ℕ) (p : Piece) → p.pos < from → is_roomy_from from p ≡ false
 too_near from p h = false_from_ne_true (is_roomy_from from p) (λ e.
@@ -112,23 +109,6 @@ where_from from xs at s = record {
   before = λ k d m. too_near from (get_or xs k d) (s.before k d m);
   behind = λ k d u m. absurd (omega (arith, s.within));
 }
-
--- the pieces of a file are in order
-laid_from : (at : ℕ) (ps : List Piece) (end : ℕ) (j : ℕ) (d : Piece) → IsLaid at ps end → j < length ps → at ≤ (get_or ps j d).pos
-laid_from at [] end j d h l = absurd (omega arith)
-laid_from at (p ∷ ps) end zero d h l = omega (arith, h.0.place)
-laid_from at (p ∷ ps) end (suc j) d h l = let r = laid_from (at + p.size) ps end j d h.2 (omega arith) in omega (arith, r)
-
-laid_rises : (at : ℕ) (ps : List Piece) (end : ℕ) (i j : ℕ) (d : Piece) → IsLaid at ps end → i < j → j < length ps → (get_or ps i d).pos < (get_or ps j d).pos
-laid_rises at [] end i j d h l m = absurd (omega arith)
-laid_rises at (p ∷ ps) end i zero d h l m = absurd (omega arith)
-laid_rises at (p ∷ ps) end zero (suc j) d h l m =
-    let r = laid_from (at + p.size) ps end j d h.2 (omega arith) in
-    omega (arith, r, h.0.place, h.0.some)
-laid_rises at (p ∷ ps) end (suc i) (suc j) d h l m = laid_rises (at + p.size) ps end i j d h.2 (omega arith) (omega arith)
-
-pub laid_order : (ps : List Piece) (end : ℕ) → IsLaid 0 ps end → IsInOrder ps
-laid_order ps end h = record { each = λ i j d l m. laid_rises 0 ps end i j d h l m }
 
 -- the piece that passes a test which only one at this place can pass is the one that a search finds
 pub found_at : (test : Piece → Bool) (pos : ℕ) (xs : List Piece) (at : ℕ) (d : Piece) → ((p : Piece) → test p ≡ true → p.pos ≡ pos) → IsInOrder xs → StartsAt pos xs at → IsSome (first test xs) → IsFirstAt test xs at d

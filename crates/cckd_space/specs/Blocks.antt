@@ -64,12 +64,13 @@ pub record AreMarked (pieces : List Piece) (leaving pending : Bool) : Type 0 whe
   pub none_pending : pending ≡ false → counted is_pending pieces ≡ 0
 
 -- a block has at most 128 pieces and memory for as many, and what it says of them is true
-pub record IsBlock (pieces : List Piece) (capacity most : ℕ) (leaving pending tail : Bool) : Type 0 where
+pub record IsBlock (pieces : List Piece) (capacity most : ℕ) (leaving pending tail head : Bool) : Type 0 where
   pub few : length pieces ≤ 128
   pub room : 128 ≤ capacity
   pub offers : largest pieces ≤ most
   pub marked : AreMarked pieces leaving pending
   pub end : tail ≡ false → ends_free pieces ≡ false
+  pub start : head ≡ false → starts_free pieces ≡ false
 
 -- no block is empty
 abbrev pub AreFilled : List (List Piece) → Type 0

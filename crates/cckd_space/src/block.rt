@@ -27,8 +27,9 @@ pub(crate) struct Block {
     // Where these are false, there is no Leaving piece, and no Pending one.
     leaving: bool,
     pending: bool,
-    // Where this is false, it doesn't end with a Free piece.
+    // Where these are false, it doesn't end with a Free piece, or doesn't begin with one.
     open_end: bool,
+    open_start: bool,
 }
 
 impl Model for Block {
@@ -41,7 +42,7 @@ impl Model for Block {
 
     ghost view = { λ b. b.pieces.items };
 
-    ghost invariant = { λ b. IsBlock b.pieces.items (vec_capacity b.pieces) b.most b.leaving b.pending b.open_end };
+    ghost invariant = { λ b. IsBlock b.pieces.items (vec_capacity b.pieces) b.most b.leaving b.pending b.open_end b.open_start };
 }
 
 impl Block {
@@ -56,6 +57,7 @@ impl Block {
             leaving: false,
             pending: false,
             open_end: false,
+            open_start: false,
         })
     }
 
@@ -75,7 +77,8 @@ impl Block {
         self.most = self.most.max(piece.offer());
         self.leaving = either(self.leaving, piece.is_leaving());
         self.pending = either(self.pending, piece.is_pending());
-        self.open_end = piece.is_free();
+        self.open_end = ends_open(&self.pieces);
+        self.open_start = starts_open(&self.pieces);
     }
 
     /// Puts one piece in place of its own.
@@ -87,6 +90,7 @@ impl Block {
         self.leaving = false;
         self.pending = false;
         self.open_end = false;
+        self.open_start = false;
         self.push(piece);
     }
 
@@ -148,7 +152,8 @@ impl Block {
     {
         cut_end(&mut self.pieces, len, size);
         self.most = largest_offer(self.pieces.as_slice());
-        self.open_end = true;
+        self.open_end = ends_open(&self.pieces);
+        self.open_start = starts_open(&self.pieces);
     }
 
     /// Frees the Reserved piece at `pos`, merges it with its neighbours in the block, and answers a
@@ -165,7 +170,8 @@ impl Block {
         let at = reserved_index(self.pieces.as_slice(), pos);
         let offered = free_at(&mut self.pieces, at);
         self.most = self.most.max(offered);
-        self.open_end = true;
+        self.open_end = ends_open(&self.pieces);
+        self.open_start = starts_open(&self.pieces);
         offered
     }
 
@@ -218,7 +224,8 @@ impl Block {
     {
         let place = reserve_below(&mut self.pieces, need, before);
         self.most = largest_offer(self.pieces.as_slice());
-        self.open_end = true;
+        self.open_end = ends_open(&self.pieces);
+        self.open_start = starts_open(&self.pieces);
         place
     }
 
@@ -236,7 +243,8 @@ impl Block {
         };
         let place = reserve_found(&mut self.pieces, at, need);
         self.most = largest_offer(self.pieces.as_slice());
-        self.open_end = slice_ends_free(self.pieces.as_slice());
+        self.open_end = ends_open(&self.pieces);
+        self.open_start = starts_open(&self.pieces);
         place
     }
 
@@ -278,7 +286,8 @@ impl Block {
         ensures { self.new ≡ replaced (is_reserved_at pos) (λ p. settled len owner p ∷ []) self.old }
     {
         settle_piece(&mut self.pieces, pos, len, owner);
-        self.open_end = true;
+        self.open_end = ends_open(&self.pieces);
+        self.open_start = starts_open(&self.pieces);
     }
 
     /// Turns the Used piece at `pos` into a Leaving one.
@@ -289,7 +298,8 @@ impl Block {
     {
         leave_piece(&mut self.pieces, pos);
         self.leaving = true;
-        self.open_end = true;
+        self.open_end = ends_open(&self.pieces);
+        self.open_start = starts_open(&self.pieces);
     }
 
     /// Moves its pieces from an index on into another block, whose own are dropped.
@@ -302,8 +312,10 @@ impl Block {
         other.most = largest_offer(other.pieces.as_slice());
         other.leaving = self.leaving;
         other.pending = self.pending;
-        other.open_end = true;
-        self.open_end = true;
+        self.open_end = ends_open(&self.pieces);
+        self.open_start = starts_open(&self.pieces);
+        other.open_end = ends_open(&other.pieces);
+        other.open_start = starts_open(&other.pieces);
     }
 
     /// Frees every Pending piece, and merges neighbours.
@@ -318,7 +330,8 @@ impl Block {
         release_pieces(&mut self.pieces);
         merge(&mut self.pieces);
         self.most = largest_offer(self.pieces.as_slice());
-        self.open_end = slice_ends_free(self.pieces.as_slice());
+        self.open_end = ends_open(&self.pieces);
+        self.open_start = starts_open(&self.pieces);
         self.pending = false;
     }
 
@@ -336,6 +349,9 @@ impl Block {
         ensures some { IfSome result (λ size. (starts_free self.now ≡ true) × (size ≡ first_size self.now)) }
         ensures none { IfNone result (starts_free self.now ≡ false) }
     {
+        if !self.open_start {
+            return None;
+        }
         slice_first_free(self.pieces.as_slice())
     }
 
@@ -346,7 +362,8 @@ impl Block {
         ensures { self.new ≡ grown more self.old }
     {
         grow_last(&mut self.pieces, more);
-        self.open_end = true;
+        self.open_end = ends_open(&self.pieces);
+        self.open_start = starts_open(&self.pieces);
         self.most = largest_offer(self.pieces.as_slice());
     }
 
@@ -357,7 +374,8 @@ impl Block {
     {
         remove_first(&mut self.pieces);
         self.most = largest_offer(self.pieces.as_slice());
-        self.open_end = true;
+        self.open_end = ends_open(&self.pieces);
+        self.open_start = starts_open(&self.pieces);
     }
 
     pub(crate) fn count(&self) -> usize
@@ -376,7 +394,8 @@ impl Block {
             unreachable!();
         };
         self.most = self.most.max(next.most);
-        self.open_end = true;
+        self.open_end = ends_open(&self.pieces);
+        self.open_start = starts_open(&self.pieces);
         self.leaving = either(self.leaving, next.leaving);
         self.pending = either(self.pending, next.pending);
     }
@@ -391,7 +410,8 @@ impl Block {
         retire_pieces(&mut self.pieces);
         self.leaving = false;
         self.pending = true;
-        self.open_end = true;
+        self.open_end = ends_open(&self.pieces);
+        self.open_start = starts_open(&self.pieces);
     }
 }
 
@@ -403,6 +423,27 @@ fn slice_ends_free(pieces: &[Piece]) -> bool
         return false;
     }
     pieces[count - 1].is_free()
+}
+
+fn slice_starts_free(pieces: &[Piece]) -> bool
+    ensures { result ≡ starts_free pieces.now }
+{
+    if pieces.len() == 0 {
+        return false;
+    }
+    pieces[0].is_free()
+}
+
+fn ends_open(pieces: &Vec<Piece>) -> bool
+    ensures { result ≡ ends_free pieces.now.items }
+{
+    slice_ends_free(pieces.as_slice())
+}
+
+fn starts_open(pieces: &Vec<Piece>) -> bool
+    ensures { result ≡ starts_free pieces.now.items }
+{
+    slice_starts_free(pieces.as_slice())
 }
 
 fn slice_starts_by(pieces: &[Piece], pos: u32) -> bool

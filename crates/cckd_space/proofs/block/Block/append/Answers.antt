@@ -23,5 +23,6 @@ invariant_of-self c =
           (subst (λ (x : Bool). AreMarked (old ++ more) x c.either-self-inside-2.result) (sym c.either-self-inside.ensures)
           (subst (λ (x : Bool). AreMarked (old ++ more) (c.self.inside.leaving || c.next.inside.leaving) x) (sym c.either-self-inside-2.ensures)
           (marked_both old more c.self.inside.leaving c.self.inside.pending c.next.inside.leaving c.next.inside.pending c.self.invariant.marked c.next.invariant.marked)));
-      end = λ (e : true ≡ false). absurd cc;
+      end = λ e. sym c.ends_open-self-inside.ensures ∙ e;
+      start = λ e. sym c.starts_open-self-inside.ensures ∙ e;
     }

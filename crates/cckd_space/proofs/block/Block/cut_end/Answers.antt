@@ -1,4 +1,4 @@
-use Rattle.std.proofs.Common.{◌≡◌, true, false, List, sym, ap, subst, arith}
+use Rattle.std.proofs.Common.{◌∙◌, ◌≡◌, true, false, List, sym, ap, subst, arith}
 use Rattle.cckd_space.specs.declared.piece.Piece.{Piece}
 use Rattle.cckd_space.specs.Pieces.{largest}
 use Rattle.cckd_space.specs.Blocks.{AreMarked}
@@ -13,5 +13,6 @@ invariant_of-self c =
       room = omega (arith, c.self.invariant.room, c.cut_end.ensures.capacity);
       offers = omega (arith, c.largest_offer-self-inside.ensures, ap largest c.as_slice.ensures.value);
       marked = subst (λ (l : List Piece). AreMarked l c.self.inside.leaving c.self.inside.pending) (sym c.cut_end.ensures.items) (block_cut c.args.len c.args.size old c.self.inside.leaving c.self.inside.pending c.self.invariant.marked);
-      end = λ (e : true ≡ false). absurd cc;
+      end = λ e. sym c.ends_open-self-inside.ensures ∙ e;
+      start = λ e. sym c.starts_open-self-inside.ensures ∙ e;
     }

@@ -15,7 +15,8 @@ invariant_of-self c =
       room = omega (arith, c.self.invariant.room, c.free_at-offered.ensures.capacity);
       offers = omega (arith, c.free_at-offered.ensures.offers, c.max-self-inside.ensures, c.self.invariant.offers);
       marked = subst (λ (l : List Piece). AreMarked l c.self.inside.leaving c.self.inside.pending) (sym now) (block_given_back c.args.pos old c.self.inside.leaving c.self.inside.pending c.self.invariant.marked);
-      end = λ (e : true ≡ false). absurd cc;
+      end = λ e. sym c.ends_open-self-inside.ensures ∙ e;
+      start = λ e. sym c.starts_open-self-inside.ensures ∙ e;
     }
 
 pub returns-clause-items : goal.returns-clause-items

@@ -14,7 +14,8 @@ invariant_of-self c =
       room = omega (arith, c.self.invariant.room, c.move_rest.ensures.capacity);
       offers = omega (arith, c.largest_offer-self-inside.ensures, ap largest c.as_slice.ensures.value);
       marked = marked_front old c.move_rest.new.pieces.items c.move_rest.new.other.items c.self.inside.leaving c.self.inside.pending both c.self.invariant.marked;
-      end = λ (e : true ≡ false). absurd cc;
+      end = λ e. sym c.ends_open-self-inside.ensures ∙ e;
+      start = λ e. sym c.starts_open-self-inside.ensures ∙ e;
     }
 
 pub invariant_of-other : goal.invariant_of-other
@@ -26,5 +27,6 @@ invariant_of-other c =
       room = omega (arith, c.other.invariant.room, c.move_rest.ensures.room);
       offers = omega (arith, c.largest_offer-other-inside.ensures, ap largest c.as_slice-2.ensures.value);
       marked = marked_rest old c.move_rest.new.pieces.items c.move_rest.new.other.items c.self.inside.leaving c.self.inside.pending both c.self.invariant.marked;
-      end = λ (e : true ≡ false). absurd cc;
+      end = λ e. sym c.ends_open-other-inside.ensures ∙ e;
+      start = λ e. sym c.starts_open-other-inside.ensures ∙ e;
     }

@@ -20,5 +20,6 @@ invariant_of-self c =
           (subst (λ (x : Bool). AreMarked (old ++ p ∷ []) x c.either-self-inside-2.result) (sym (c.either-self-inside.ensures ∙ ap (λ (x : Bool). c.self.inside.leaving || x) c.is_leaving.ensures))
           (subst (λ (x : Bool). AreMarked (old ++ p ∷ []) (c.self.inside.leaving || is_leaving p) x) (sym (c.either-self-inside-2.ensures ∙ ap (λ (x : Bool). c.self.inside.pending || x) c.is_pending.ensures))
           (marked_both old (p ∷ []) c.self.inside.leaving c.self.inside.pending (is_leaving p) (is_pending p) c.self.invariant.marked (marked_one p))));
-      end = λ e. ap ends_free items ∙ (ends_with old p ∙ (sym c.is_free-self-inside.ensures ∙ e));
+      end = λ e. sym c.ends_open-self-inside.ensures ∙ e;
+      start = λ e. sym c.starts_open-self-inside.ensures ∙ e;
     }

@@ -30,5 +30,6 @@ invariant_of-self c =
       room = omega (arith, c.self.invariant.room, c.release_pieces.ensures.capacity, c.merge.ensures.capacity);
       offers = omega (arith, c.largest_offer-self-inside.ensures, ap largest c.as_slice.ensures.value);
       marked = subst (λ (l : List Piece). AreMarked l c.self.inside.leaving false) (sym both) (block_released old c.self.inside.leaving c.self.inside.pending c.self.invariant.marked);
-      end = λ e. ap ends_free (sym c.as_slice-2.ensures.value) ∙ (sym c.slice_ends_free-self-inside.ensures ∙ e);
+      end = λ e. sym c.ends_open-self-inside.ensures ∙ e;
+      start = λ e. sym c.starts_open-self-inside.ensures ∙ e;
     }

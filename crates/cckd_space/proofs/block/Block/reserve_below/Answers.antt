@@ -1,4 +1,4 @@
-use Rattle.std.proofs.Common.{◌≡◌, ◌^◌, List, length, true, false, sym, ap, subst, arith}
+use Rattle.std.proofs.Common.{◌∙◌, ◌≡◌, ◌^◌, List, length, true, false, sym, ap, subst, arith}
 use Rattle.cckd_space.specs.declared.piece.Piece.{Piece}
 use Rattle.cckd_space.specs.Pieces.{has_room_below, largest}
 use Rattle.cckd_space.specs.Inside.{EndsBelow}
@@ -19,5 +19,6 @@ invariant_of-self c =
       room = omega (arith, c.self.invariant.room, c.reserve_below-place.ensures.capacity);
       offers = omega (arith, c.largest_offer-self-inside.ensures, ap largest c.as_slice.ensures.value);
       marked = subst (λ (l : List Piece). AreMarked l c.self.inside.leaving c.self.inside.pending) (sym c.reserve_below-place.ensures.items) (block_filled (has_room_below c.args.need c.args.before) c.args.need (below_room c.args.need c.args.before) old c.self.inside.leaving c.self.inside.pending c.self.invariant.marked);
-      end = λ (e : true ≡ false). absurd cc;
+      end = λ e. sym c.ends_open-self-inside.ensures ∙ e;
+      start = λ e. sym c.starts_open-self-inside.ensures ∙ e;
     }

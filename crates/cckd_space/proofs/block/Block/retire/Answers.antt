@@ -1,4 +1,4 @@
-use Rattle.std.proofs.Common.{◌≡◌, map, true, false, List, sym, ap, subst, arith}
+use Rattle.std.proofs.Common.{◌∙◌, ◌≡◌, map, true, false, List, sym, ap, subst, arith}
 use Rattle.cckd_space.specs.declared.piece.Piece.{Piece}
 use Rattle.cckd_space.specs.Pieces.{retired, largest}
 use Rattle.cckd_space.specs.Blocks.{AreMarked}
@@ -20,5 +20,6 @@ invariant_of-self c =
       room = omega (arith, c.self.invariant.room, c.retire_pieces.ensures.capacity);
       offers = omega (arith, less, ap largest c.retire_pieces.ensures.items, c.self.invariant.offers);
       marked = subst (λ (l : List Piece). AreMarked l false true) (sym c.retire_pieces.ensures.items) (block_retired old);
-      end = λ (e : true ≡ false). absurd cc;
+      end = λ e. sym c.ends_open-self-inside.ensures ∙ e;
+      start = λ e. sym c.starts_open-self-inside.ensures ∙ e;
     }

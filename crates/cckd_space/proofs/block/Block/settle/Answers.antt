@@ -1,4 +1,4 @@
-use Rattle.std.proofs.Common.{◌≡◌, List, true, false, refl, sym, ap, subst, arith}
+use Rattle.std.proofs.Common.{◌∙◌, ◌≡◌, List, true, false, refl, sym, ap, subst, arith}
 use Rattle.cckd_space.specs.declared.piece.Piece.{Piece}
 use Rattle.cckd_space.specs.Pieces.{is_reserved_at, largest, settled}
 use Rattle.cckd_space.specs.Blocks.{AreMarked}
@@ -15,5 +15,6 @@ invariant_of-self c =
       room = omega (arith, c.self.invariant.room, c.settle_piece.ensures.capacity);
       offers = omega (arith, less, ap largest c.settle_piece.ensures.items, c.self.invariant.offers);
       marked = subst (λ (l : List Piece). AreMarked l c.self.inside.leaving c.self.inside.pending) (sym c.settle_piece.ensures.items) (block_settled c.args.pos (settled c.args.len c.args.owner) (λ p. refl) (λ p. refl) old c.self.inside.leaving c.self.inside.pending c.self.invariant.marked);
-      end = λ (e : true ≡ false). absurd cc;
+      end = λ e. sym c.ends_open-self-inside.ensures ∙ e;
+      start = λ e. sym c.starts_open-self-inside.ensures ∙ e;
     }
