@@ -11,8 +11,12 @@ use crate::editing::{
     cut_end, free_at, free_end, leave_piece, merge, push_piece, release_pieces, reserve_below,
     reserve_found, retire_pieces, settle_piece,
 };
+use crate::ends::{
+    either, ends_open, grow_last, move_rest, remove_first, slice_ends_free, slice_first_free,
+    slice_starts_by, starts_open,
+};
 use crate::finding::{self, first_room, first_room_below, reserved_index};
-use crate::piece::{Piece, free};
+use crate::piece::Piece;
 use crate::totals::{Sums, add_up, largest_offer};
 use cckd_base::{Memory, Owner};
 use std::alloc::Global;
@@ -413,103 +417,4 @@ impl Block {
         self.open_end = ends_open(&self.pieces);
         self.open_start = starts_open(&self.pieces);
     }
-}
-
-fn slice_ends_free(pieces: &[Piece]) -> bool
-    ensures { result ≡ ends_free pieces.now }
-{
-    let count = pieces.len();
-    if count == 0 {
-        return false;
-    }
-    pieces[count - 1].is_free()
-}
-
-fn slice_starts_free(pieces: &[Piece]) -> bool
-    ensures { result ≡ starts_free pieces.now }
-{
-    if pieces.len() == 0 {
-        return false;
-    }
-    pieces[0].is_free()
-}
-
-fn ends_open(pieces: &Vec<Piece>) -> bool
-    ensures { result ≡ ends_free pieces.now.items }
-{
-    slice_ends_free(pieces.as_slice())
-}
-
-fn starts_open(pieces: &Vec<Piece>) -> bool
-    ensures { result ≡ starts_free pieces.now.items }
-{
-    slice_starts_free(pieces.as_slice())
-}
-
-fn slice_starts_by(pieces: &[Piece], pos: u32) -> bool
-    ensures { result ≡ starts_by pos pieces.now }
-{
-    if pieces.len() == 0 {
-        return true;
-    }
-    pieces[0].pos <= pos
-}
-
-fn slice_first_free(pieces: &[Piece]) -> Option<u32>
-    ensures some { IfSome result (λ size. (starts_free pieces.now ≡ true) × (size ≡ first_size pieces.now)) }
-    ensures none { IfNone result (starts_free pieces.now ≡ false) }
-{
-    if pieces.len() == 0 {
-        return None;
-    }
-    let piece = pieces[0];
-    if piece.is_free() {
-        Some(piece.size)
-    } else {
-        None
-    }
-}
-
-fn grow_last(pieces: &mut Vec<Piece>, more: u32)
-    requires free { ends_free pieces.old.items ≡ true }
-    requires sizes { size_of pieces.old.items + more < 2 ^ 32 }
-    ensures items { pieces.new.items ≡ grown more pieces.old.items }
-    ensures len { vec_len pieces.new ≡ vec_len pieces.old }
-    ensures capacity { vec_capacity pieces.old ≤ vec_capacity pieces.new }
-{
-    let last = pieces.len() - 1;
-    let piece = pieces[last];
-    pieces[last] = free(piece.pos, piece.size + more);
-}
-
-fn remove_first(pieces: &mut Vec<Piece>)
-    requires { 0 < vec_len pieces.old }
-    ensures items { pieces.new.items ≡ drop 1 pieces.old.items }
-    ensures capacity { vec_capacity pieces.old ≤ vec_capacity pieces.new }
-{
-    let _first = pieces.remove(0);
-}
-
-fn either(a: bool, b: bool) -> bool
-    ensures { result ≡ (a || b) }
-{
-    a || b
-}
-
-/// Moves the pieces from an index on into another list, whose own are dropped.
-fn move_rest(pieces: &mut Vec<Piece>, other: &mut Vec<Piece>, at: usize)
-    requires room { vec_len pieces.old ≤ vec_capacity other.old }
-    ensures front { pieces.new.items ≡ take at pieces.old.items }
-    ensures rest { other.new.items ≡ drop at pieces.old.items }
-    ensures len { vec_len pieces.new ≤ vec_len pieces.old }
-    ensures fewer { vec_len other.new ≤ vec_len pieces.old }
-    ensures capacity { vec_capacity pieces.old ≤ vec_capacity pieces.new }
-    ensures room { vec_capacity other.old ≤ vec_capacity other.new }
-{
-    let from = at.min(pieces.len());
-    other.clear();
-    let Ok(()) = other.extend_from_slice(&pieces[from..]) else {
-        unreachable!();
-    };
-    pieces.truncate(at);
 }

@@ -7,6 +7,7 @@ mod block;
 mod blocks;
 mod border;
 mod editing;
+mod ends;
 mod finding;
 mod making;
 mod order;

@@ -1,6 +1,6 @@
 use Rattle.std.proofs.Common.{◌-◌, length, sym, ◌∙◌, arith}
 use Rattle.cckd_space.proofs.BlockLemmas.{end_at}
-use Rattle.cckd_space.proofs.block.slice_ends_free.Goals as goal
+use Rattle.cckd_space.proofs.ends.slice_ends_free.Goals as goal
 
 pub returns : goal.returns
 returns c =

@@ -1,7 +1,7 @@
 use Rattle.std.proofs.Common.{◌≡◌, ℕ, ◌-◌, length, get_or, ap, subst, arith}
 use Rattle.cckd_space.specs.declared.piece.Piece.{Piece}
 use Rattle.cckd_space.proofs.BlockLemmas.{size_in, grown_is, some_end}
-use Rattle.cckd_space.proofs.block.grow_last.Goals as goal
+use Rattle.cckd_space.proofs.ends.grow_last.Goals as goal
 
 pub overflow_add-piece : goal.overflow_add-piece
 overflow_add-piece c =
