@@ -21,7 +21,10 @@ fn main(rt: HostRuntime) -> io::Result<()> {
     };
     match word.as_str() {
         "frames" => frames::measure(&rt, words.next()),
-        "space" => space::measure(&rt, words.next()),
+        "space" => {
+            let tracks = words.next();
+            space::measure(&rt, tracks, words.next())
+        }
         "turn" => {
             let calls = turn::calls_in(words.next());
             for word in words {

@@ -51,6 +51,14 @@ free_is Reserved e = absurd cc
 free_is Leaving e = absurd cc
 free_is Pending e = absurd cc
 
+-- what is Free is neither Leaving nor Pending
+pub free_kinds : (k : Kind) → free_kind k ≡ true → (leaving_kind k ≡ false) × (pending_kind k ≡ false)
+free_kinds Used e = (refl, refl)
+free_kinds Free e = (refl, refl)
+free_kinds Reserved e = (refl, refl)
+free_kinds Leaving e = absurd cc
+free_kinds Pending e = absurd cc
+
 -- what is found as Used is so, and what is found as Reserved
 pub found_used : (pos : ℕ) (p : Piece) → is_used_at pos p ≡ true → p.kind ≡ Used
 found_used pos p e = used_is p.kind (and_parts (used_kind p.kind) (p.pos == pos) e).0

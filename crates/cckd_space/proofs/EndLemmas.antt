@@ -1,10 +1,10 @@
 -- The end of a list of pieces, from its last piece.
-use Rattle.std.proofs.Common.{◌≡◌, ℕ, ◌+◌, ◌-◌, ◌<◌, ◌≤◌, min, true, false, List, [], ◌∷◌, ◌++◌, length, take, drop, get_or, refl, sym, ◌∙◌, ap, arith}
-use Rattle.std.proofs.lemmas.Bool.{le-ltb}
-use Rattle.std.proofs.lemmas.List.{take_more, take_all, drop_all, append-nil, length-take-le}
+use Rattle.std.proofs.Common.{◌≡◌, ℕ, ◌+◌, ◌-◌, ◌<◌, ◌≤◌, min, nat_lt, Bool, true, false, List, [], ◌∷◌, ◌++◌, length, take, drop, get_or, refl, sym, ◌∙◌, ap, arith}
+use Rattle.std.proofs.lemmas.Bool.{cond_both, le-ltb}
+use Rattle.std.proofs.lemmas.List.{take_more, take_all, drop_all, append-nil, length-append, length-take-le}
 use Rattle.cckd_space.specs.Inside.{EndsAt}
 use Rattle.cckd_space.specs.declared.piece.Piece.{Piece}
-use Rattle.cckd_space.specs.Pieces.{is_free, piece_end, trimmed, used_end, cut, free_run}
+use Rattle.cckd_space.specs.Pieces.{appended, end_place, free_piece, is_free, reserved_piece, piece_end, trimmed, used_end, cut, free_run}
 
 pub trimmed_free : (ys : List Piece) (p : Piece) → is_free p ≡ true → trimmed (ys ++ p ∷ []) ≡ ys
 trimmed_free [] p e = rw e refl
@@ -73,3 +73,42 @@ cut_read xs ys zs x n len size e h r f s t =
     ∙ (ap (λ (m : List Piece). m ++ free_run x.pos (min len size)) whole
     ∙ (ap (λ (p : Piece). take (length xs - 1) xs ++ free_run p.pos (min len size)) here
     ∙ sym (cut_free xs x len size (omega arith) (ap is_free (sym here) ∙ f)))))
+
+-- the free bytes between two places are one piece at most
+pub run_one : (from to : ℕ) → length (free_run from to) ≤ 1
+run_one from to = cond_both (nat_lt from to) (free_piece from (to - from) ∷ []) [] (λ (l : List Piece). length l ≤ 1) (λ e. omega arith) (λ e. omega arith)
+
+-- a cut leaves no more pieces
+pub cut_fewer : (len : ℕ) (xs : List Piece) (size : ℕ) → EndsAt xs size → length (cut len size xs) ≤ length xs
+cut_fewer len [] size s = let e = ap length (cut_none len size (s.none refl)) in omega (arith, e)
+cut_fewer len (x ∷ xs) size s = by (is_free (get_or (x ∷ xs) (length (x ∷ xs) - 1) x)) refl
+  where
+    by : (b : Bool) → is_free (get_or (x ∷ xs) (length (x ∷ xs) - 1) x) ≡ b → length (cut len size (x ∷ xs)) ≤ length (x ∷ xs)
+    by true e =
+        let run = free_run (get_or (x ∷ xs) (length (x ∷ xs) - 1) x).pos (min len size) in
+        let a = ap length (cut_free (x ∷ xs) x len size (omega arith) e) in
+        let b = length-append (take (length (x ∷ xs) - 1) (x ∷ xs)) run in
+        let f = run_one (get_or (x ∷ xs) (length (x ∷ xs) - 1) x).pos (min len size) in
+        let t = length-take-le (length (x ∷ xs) - 1) (x ∷ xs) (omega arith) in
+        omega (arith, a, b, f, t)
+    by false e = let a = ap length (cut_kept (x ∷ xs) x len size s (omega arith) e) in omega (arith, a)
+
+-- a cut at the first byte leaves nothing of a Free piece at the end
+pub cut_all : (size : ℕ) (xs : List Piece) → cut 0 size xs ≡ trimmed xs
+cut_all size xs = ap (λ (l : List Piece). trimmed xs ++ l) (free_run_none (used_end xs) (min 0 size) (omega arith)) ∙ append-nil (trimmed xs)
+
+-- a placement at the end adds two pieces at most
+trimmed_fewer : (ps : List Piece) → length (trimmed ps) ≤ length ps
+trimmed_fewer [] = omega arith
+trimmed_fewer (p ∷ []) = cond_both (is_free p) [] (p ∷ []) (λ (l : List Piece). length l ≤ length (p ∷ [])) (λ e. omega arith) (λ e. omega arith)
+trimmed_fewer (p ∷ q ∷ qs) = let r = trimmed_fewer (q ∷ qs) in omega (arith, r)
+
+pub appended_few : (need : ℕ) (ps : List Piece) → length (appended need ps) ≤ length ps + 2
+appended_few need ps =
+    let run = free_run (used_end ps) (end_place ps) in
+    let rest = reserved_piece (end_place ps) need ∷ [] in
+    let a = length-append (trimmed ps) (run ++ rest) in
+    let b = length-append run rest in
+    let c = trimmed_fewer ps in
+    let d = run_one (used_end ps) (end_place ps) in
+    omega (arith, a, b, c, d)

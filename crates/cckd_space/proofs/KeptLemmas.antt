@@ -1,96 +1,12 @@
--- What a `Space` keeps of its list beside the list: how many first pieces offer under 8 bytes, and a bound of what is offered.
-use Rattle.std.proofs.Common.{◌≡◌, ℕ, zero, suc, ◌+◌, ◌-◌, ◌<◌, ◌≤◌, max, min, nat_lt, Bool, true, false, ◌&&◌, List, [], ◌∷◌, ◌++◌, length, take, drop, get_or, map, refl, sym, ◌∙◌, ap, subst, arith, inl, inr}
-use Rattle.std.specs.List.{position_or_len}
-use Rattle.std.proofs.lemmas.Bool.{cond_both, cases_lt, ltb-true}
+-- What a `Space` keeps of its list beside the list: a bound of what is offered.
+use Rattle.std.proofs.Common.{◌≡◌, ℕ, zero, suc, ◌+◌, ◌-◌, ◌<◌, ◌≤◌, max, min, nat_lt, Bool, true, false, ◌&&◌, List, [], ◌∷◌, ◌++◌, length, take, drop, get_or, map, refl, ◌∙◌, ap, arith}
+use Rattle.std.proofs.lemmas.Bool.{cond_both, ltb-true}
 use Rattle.std.proofs.lemmas.List.{get_or-append-add, length-take-le}
 use Rattle.cckd_space.specs.declared.piece.Kind.TheVariants.{Used, Free, Reserved, Leaving, Pending}
 use Rattle.cckd_space.specs.declared.piece.Piece.{Piece}
-use Rattle.cckd_space.specs.Pieces.{is_pending, is_free, replaced, free_piece, free_run, reserved_piece, reserved_in, freed, joined, merged, retired, retired_as, released, has_room, aligned_up, piece_end, offer, largest, trimmed, used_end, end_place, appended, cut, IsLaid}
-use Rattle.cckd_space.specs.Inside.{AreMerged, IsShut, is_open}
+use Rattle.cckd_space.specs.Pieces.{is_free, replaced, free_piece, free_run, reserved_piece, reserved_in, freed, joined, retired, retired_as, has_room, aligned_up, piece_end, offer, largest, trimmed, used_end, end_place, appended, cut, IsLaid}
 use Rattle.cckd_space.proofs.LaidLemmas.{room_facts}
-use Rattle.cckd_space.proofs.SearchLemmas.{free_shut}
-use Rattle.cckd_space.proofs.MarkLemmas.{released_same}
-use Rattle.cckd_space.proofs.MergeLemmas.{IsFreedAt, joined_over, merged_freed}
-
--- How many first pieces offer under 8 bytes.
-
--- other pieces, none of them Free, in place of the first that passes
-pub shut_swapped : (test : Piece → Bool) (f : Piece → Piece) → ((p : Piece) → is_free (f p) ≡ false) → (n : ℕ) (ps : List Piece) → IsShut n ps → IsShut n (replaced test (λ p. f p ∷ []) ps)
-shut_swapped test f not zero ps h = tt
-shut_swapped test f not (suc n) [] h = absurd h
-shut_swapped test f not (suc n) (p ∷ ps) h =
-    cond_both (test p) (f p ∷ ps) (p ∷ replaced test (λ p. f p ∷ []) ps) (IsShut (suc n))
-    (λ e. (free_shut (f p) (not p), h.1))
-    (λ e. (h.0, shut_swapped test f not n ps h.1))
-
--- any pieces in place of one that offers as many
-pub shut_filled : (test : Piece → Bool) (news : Piece → List Piece) → ((p : Piece) → test p ≡ true → is_open p ≡ true) → (n : ℕ) (ps : List Piece) → IsShut n ps → IsShut n (replaced test news ps)
-shut_filled test news open_there zero ps h = tt
-shut_filled test news open_there (suc n) [] h = absurd h
-shut_filled test news open_there (suc n) (p ∷ ps) h =
-    cond_both (test p) (news p ++ ps) (p ∷ replaced test news ps) (IsShut (suc n))
-    (λ e. absurd (let g : true ≡ false = sym (open_there p e) ∙ h.0 in cc))
-    (λ e. (h.0, shut_filled test news open_there n ps h.1))
-
-retired_shut : (p : Piece) → is_open p ≡ false → is_open (retired p) ≡ false
-retired_shut p h = elim p.kind as (λ k. is_open p ≡ false → is_open (retired_as k p) ≡ false) [ Used ↦ λ e. e | Free ↦ λ e. e | Reserved ↦ λ e. e | Leaving ↦ λ e. refl | Pending ↦ λ e. e ] h
-
-pub shut_retired : (n : ℕ) (ps : List Piece) → IsShut n ps → IsShut n (map retired ps)
-shut_retired zero ps h = tt
-shut_retired (suc n) [] h = absurd h
-shut_retired (suc n) (p ∷ ps) h = (retired_shut p h.0, shut_retired n ps h.1)
-
--- all but the last piece stay where the end changes
-pub shut_trimmed : (n : ℕ) (ps tail : List Piece) → n ≤ length ps - 1 → IsShut n ps → IsShut n (trimmed ps ++ tail)
-shut_trimmed zero ps tail l h = tt
-shut_trimmed (suc n) [] tail l h = absurd h
-shut_trimmed (suc n) (p ∷ []) tail l h = absurd (omega arith)
-shut_trimmed (suc n) (p ∷ q ∷ qs) tail l h = (h.0, shut_trimmed n (q ∷ qs) tail (omega arith) h.1)
-
--- what isn't Pending, and stands before another such piece, stays where the Pending ones are freed
-pub shut_released : (n : ℕ) (ps : List Piece) → AreMerged ps → n ≤ position_or_len is_pending ps - 1 → IsShut n ps → IsShut n (merged (map released ps))
-shut_released zero ps a l h = tt
-shut_released (suc n) [] a l h = absurd h
-shut_released (suc n) (p ∷ []) a l h = by (is_pending p) refl
-  where
-    by : (b : Bool) → is_pending p ≡ b → IsShut (suc n) (merged (map released (p ∷ [])))
-    by true e = absurd (let k : suc n ≤ 0 - 1 = rw e at l in omega (arith, k))
-    by false e = absurd (let k : suc n ≤ 1 - 1 = rw e at l in omega (arith, k))
-shut_released (suc n) (p ∷ q ∷ qs) a l h = by (is_pending p) refl (is_pending q) refl (λ k. shut_released n (q ∷ qs) a.1 k h.1)
-  where
-    by : (b : Bool) → is_pending p ≡ b → (c : Bool) → is_pending q ≡ c → (n ≤ position_or_len is_pending (q ∷ qs) - 1 → IsShut n (merged (map released (q ∷ qs)))) → IsShut (suc n) (merged (map released (p ∷ q ∷ qs)))
-    by true e c f more = absurd (let k : suc n ≤ 0 - 1 = rw e at l in omega (arith, k))
-    by false e true f more = absurd (let k : suc n ≤ 1 + 0 - 1 = rw (e, f) at l in omega (arith, k))
-    by false e false f more =
-        let k : n ≤ position_or_len is_pending (q ∷ qs) - 1 = (let m : suc n ≤ 1 + position_or_len is_pending (q ∷ qs) - 1 = rw e at l in omega (arith, m)) in
-        let r = more k in
-        let u = released_same p e in
-        let v = released_same q f in
-        let w : joined p (joined q (merged (map released qs))) ≡ p ∷ joined q (merged (map released qs)) = joined_over p q (merged (map released qs)) a.0 in
-        rw (u, v, w) (h.0, rw v at r)
-
--- the front of another list
-pub shut_front : (n : ℕ) (xs ys : List Piece) → n ≤ length xs → IsShut n xs → IsShut n (xs ++ ys)
-shut_front zero xs ys l h = tt
-shut_front (suc n) [] ys l h = absurd h
-shut_front (suc n) (x ∷ xs) ys l h = (h.0, shut_front n xs ys (omega arith) h.1)
-
-pub shut_take : (n at : ℕ) (xs : List Piece) → n ≤ at → IsShut n xs → IsShut n (take at xs)
-shut_take zero at xs l h = tt
-shut_take (suc n) at [] l h = absurd h
-shut_take (suc n) zero (x ∷ xs) l h = absurd (omega arith)
-shut_take (suc n) (suc at) (x ∷ xs) l h = (h.0, shut_take n at xs (omega arith) h.1)
-
-pub shut_fewer : (m n : ℕ) (xs : List Piece) → m ≤ n → IsShut n xs → IsShut m xs
-shut_fewer zero n xs l h = tt
-shut_fewer (suc m) zero xs l h = absurd (omega arith)
-shut_fewer (suc m) (suc n) [] l h = absurd h
-shut_fewer (suc m) (suc n) (x ∷ xs) l h = (h.0, shut_fewer m n xs (omega arith) h.1)
-
-pub shut_end : (solid few : ℕ) (ps tail : List Piece) → few ≡ min solid (length ps - 1) → IsShut solid ps → IsShut few (trimmed ps ++ tail)
-shut_end solid few ps tail e h = shut_trimmed few ps tail (omega arith) (shut_fewer few solid ps (omega arith) h)
-
--- The bound of what is offered.
+use Rattle.cckd_space.proofs.MergeLemmas.{IsFreedAt}
 
 pub largest_append : (xs ys : List Piece) → largest (xs ++ ys) ≡ max (largest xs) (largest ys)
 largest_append [] ys = omega arith
@@ -224,16 +140,3 @@ largest_joined_at old now at d offered l n o =
     let b = largest_take at old in
     let c = largest_drop (at + 1) old in
     omega (arith, a, b, c)
-
--- a piece freed at an index, and merged with its neighbours, leaves the pieces before them as they were
-pub shut_freed : (solid at few : ℕ) (xs now : List Piece) (d : Piece) → AreMerged xs → at < length xs → now ≡ merged (take at xs ++ freed (get_or xs at d) ∷ drop (at + 1) xs) → few ≡ min solid (at - 1)
-    → IsShut solid xs → IsShut few now
-shut_freed solid at few xs now d a l e f h = elim (cases_lt 0 at) [
-  | inl some ↦
-      let before = at - 1 in
-      let ys = joined (get_or xs before d) (joined (freed (get_or xs at d)) (drop (at + 1) xs)) in
-      let is : now ≡ take before xs ++ ys = e ∙ merged_freed xs at before d a l (omega arith) in
-      subst (IsShut few) (sym is)
-      (shut_front few (take before xs) ys (omega (arith, length-take-le before xs (omega arith))) (shut_take few before xs (omega arith) (shut_fewer few solid xs (omega arith) h)))
-  | inr none ↦ let z : 0 ≡ few = omega arith in subst (λ (n : ℕ). IsShut n now) z tt
-]

@@ -246,9 +246,6 @@ laid_freed test ps end h = laid-merged 0 (replaced test (λ p. freed p ∷ []) p
 pub laid_released : (ps : List Piece) (end : ℕ) → IsLaid 0 ps end → IsLaid 0 (merged (map released ps)) end
 laid_released ps end h = laid-merged 0 (map released ps) end (released_row ps end h)
 
-pub released_size : (ps : List Piece) (end : ℕ) → IsLaid 0 ps end → size_of (map released ps) ≡ end
-released_size ps end h = let r = row_size 0 (map released ps) end (released_row ps end h) in omega (arith, r)
-
 apart-trimmed : (p q : Piece) (qs tail : List Piece) → NotBothFree p (q ∷ qs) → NotBothFree p (trimmed (q ∷ qs) ++ tail)
 apart-trimmed p q [] tail h =
     cond_both (is_free q) [] (q ∷ []) (λ (l : List Piece). NotBothFree p (l ++ tail))
@@ -314,3 +311,8 @@ laid_below ps end most h l = record { each = λ i d w. let r = laid_within 0 ps 
 
 pub below_room : (need before : ℕ) (p : Piece) → has_room_below need before p ≡ true → has_room need p ≡ true
 below_room need before p e = (and_parts (has_room need p) (nat_le (aligned_up p.pos + need) before) e).0
+
+-- there are no more pieces than bytes
+pub laid_long : (at : ℕ) (ps : List Piece) (end : ℕ) → IsLaid at ps end → at + length ps ≤ end
+laid_long at [] end l = omega (arith, l)
+laid_long at (p ∷ ps) end l = let r = laid_long (at + p.size) ps end l.2 in omega (arith, r, l.0.some)

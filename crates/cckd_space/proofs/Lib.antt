@@ -13,3 +13,10 @@ pub mod SpareLemmas
 pub mod SameLemmas
 pub mod SettleLemmas
 pub mod UsedLemmas
+pub mod BlockMarkLemmas
+pub mod BlockLemmas
+pub mod OrderLemmas
+pub mod FitLemmas
+pub mod KnitLemmas
+pub mod BackLemmas
+pub mod HeldLemmas

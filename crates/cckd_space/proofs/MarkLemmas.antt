@@ -5,11 +5,11 @@ use Rattle.cckd_base.specs.declared.space.Extent.{Extent}
 use Rattle.cckd_space.specs.declared.piece.Kind.{Kind}
 use Rattle.cckd_space.specs.declared.piece.Kind.TheVariants.{Used, Free, Reserved, Leaving, Pending}
 use Rattle.cckd_space.specs.declared.piece.Piece.{Piece}
-use Rattle.cckd_space.specs.Pieces.{free_kind, first, replaced, reserved_in, is_reserved_at, is_used_at, has_room, left, appended, cut, retired, retired_as, released, released_as, merged, counted, pieces_of, is_leaving, is_pending, leaving_kind, pending_kind}
+use Rattle.cckd_space.specs.Pieces.{first, replaced, reserved_in, is_reserved_at, is_used_at, has_room, left, appended, cut, retired, retired_as, released, released_as, merged, counted, pieces_of, is_leaving, is_pending, leaving_kind, pending_kind}
 use Rattle.cckd_space.specs.Inside.{AreMerged, IsMarked}
 use Rattle.cckd_space.proofs.LaidLemmas.{room_facts}
 use Rattle.cckd_space.proofs.MergeLemmas.{merged_same}
-use Rattle.cckd_space.proofs.CountLemmas.{one, count_even, count_reserved_in, count_merged, count_used, count_left, count_retired, count_released, count_cut, count_appended, found_reserved}
+use Rattle.cckd_space.proofs.CountLemmas.{one, free_kinds, count_even, count_reserved_in, count_merged, count_used, count_left, count_retired, count_released, count_cut, count_appended, found_reserved}
 
 -- with as many of both, the marks stay true
 pub marked_even : (old new : List Piece) (leaving pending : Bool) → counted is_leaving new ≡ counted is_leaving old → counted is_pending new ≡ counted is_pending old → IsMarked old leaving pending → IsMarked new leaving pending
@@ -23,13 +23,6 @@ marked_used es size = record {
   some_leaving = ap (nat_lt 0) (sym (count_used leaving_kind refl 0 es size));
   some_pending = ap (nat_lt 0) (sym (count_used pending_kind refl 0 es size));
 }
-
-free_kinds : (k : Kind) → free_kind k ≡ true → (leaving_kind k ≡ false) × (pending_kind k ≡ false)
-free_kinds Used e = (refl, refl)
-free_kinds Free e = (refl, refl)
-free_kinds Reserved e = (refl, refl)
-free_kinds Leaving e = absurd cc
-free_kinds Pending e = absurd cc
 
 -- bytes reserved in a free piece
 pub marked_filled : (test : Piece → Bool) (need : ℕ) → ((p : Piece) → test p ≡ true → has_room need p ≡ true) → (ps : List Piece) (leaving pending : Bool) → IsMarked ps leaving pending → IsMarked (replaced test (reserved_in need) ps) leaving pending

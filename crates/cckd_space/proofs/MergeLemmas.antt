@@ -5,7 +5,7 @@ use Rattle.std.proofs.lemmas.List.{set_split, get_or_read, drop_more, drop_all, 
 use Rattle.cckd_base.specs.declared.space.Owner.TheVariants.{Nobody}
 use Rattle.cckd_space.specs.declared.piece.Kind.TheVariants.{Used}
 use Rattle.cckd_space.specs.declared.piece.Piece.{Piece}
-use Rattle.cckd_space.specs.Pieces.{is_free, free_piece, freed, joined, merged, replaced, NotBothFree, IsLaid}
+use Rattle.cckd_space.specs.Pieces.{is_free, is_reserved_at, free_piece, freed, joined, merged, replaced, NotBothFree, IsLaid}
 use Rattle.cckd_space.specs.Inside.{size_of, AreMerged}
 use Rattle.cckd_space.proofs.FirstLemmas.{is_first, replaced_at}
 
@@ -234,3 +234,19 @@ pub freed_items : (test : Piece → Bool) (xs : List Piece) (at : ℕ) (d : Piec
     → take at xs ++ freed (get_or xs at d) ∷ drop (at + 1) xs ≡ replaced test (λ p. freed p ∷ []) xs
 freed_items test xs at d e =
     ap (λ (n : ℕ). take at xs ++ freed (get_or xs at d) ∷ drop n xs) (add-one at) ∙ sym (replaced_at test (λ p. freed p ∷ []) xs at d (is_first test xs at d e))
+
+-- the list now, as what the definition makes of the one before
+pub given_back : (pos at : ℕ) (xs ys zs : List Piece) → ys ≡ xs → position (is_reserved_at pos) ys ≡ Some at → ((d : Piece) → zs ≡ merged (take at xs ++ freed (get_or xs at d) ∷ drop (at + 1) xs))
+    → zs ≡ merged (replaced (is_reserved_at pos) (λ p. freed p ∷ []) xs)
+given_back pos at xs ys zs s e h =
+    let d : Piece = record { pos = 0; len = 0; size = 0; kind = Used; owner = Nobody } in
+    h d ∙ ap merged (freed_items (is_reserved_at pos) xs at d (subst (λ (l : List Piece). position (is_reserved_at pos) l ≡ Some at) s e))
+
+joined_fewer : (p : Piece) (qs : List Piece) → length (joined p qs) ≤ suc (length qs)
+joined_fewer p [] = omega arith
+joined_fewer p (q ∷ qs) = cond_both (is_free p && is_free q) (free_piece p.pos (p.size + q.size) ∷ qs) (p ∷ q ∷ qs) (λ (l : List Piece). length l ≤ suc (length (q ∷ qs))) (λ e. omega arith) (λ e. omega arith)
+
+-- a merge leaves no more pieces
+pub merged_fewer : (ps : List Piece) → length (merged ps) ≤ length ps
+merged_fewer [] = omega arith
+merged_fewer (p ∷ ps) = let r = merged_fewer ps in let j = joined_fewer p (merged ps) in omega (arith, r, j)

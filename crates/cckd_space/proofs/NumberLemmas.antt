@@ -1,5 +1,5 @@
 -- The numbers of a list of pieces that cover a file.
-use Rattle.std.proofs.Common.{◌≡◌, ℕ, zero, suc, ◌+◌, ◌-◌, ◌*◌, ◌<◌, ◌≤◌, nat_le, Bool, true, false, cond, ◌&&◌, List, [], ◌∷◌, length, get_or, Some, None, refl, ap, arith, position}
+use Rattle.std.proofs.Common.{◌≡◌, ℕ, zero, suc, ◌+◌, ◌-◌, ◌*◌, ◌<◌, ◌≤◌, nat_le, Bool, true, false, cond, ◌&&◌, max, List, [], ◌∷◌, ◌++◌, length, get_or, Some, None, refl, ap, arith, position}
 use Rattle.std.proofs.lemmas.Bool.{cond_both, leb-true, leb-false, and_parts, false_from_ne_true}
 use Rattle.cckd_base.specs.declared.space.Owner.TheVariants.{Nobody}
 use Rattle.cckd_space.specs.declared.piece.Kind.TheVariants.{Used, Free, Reserved, Leaving, Pending}
@@ -38,17 +38,6 @@ none_offered need some (x ∷ xs) e = by (has_room need x) refl (none_offered ne
         let r = more (rw f at e) in
         let o = no_offer need x some f in
         omega (arith, r, o)
-
-pub none_large : (need : ℕ) → 0 < need → (xs : List Piece) → position (has_room need) xs ≡ None → largest xs < need
-none_large need some xs e = none_offered need some xs (none_passes (has_room need) xs e)
-
-pub some_large : (need : ℕ) (xs : List Piece) (i : ℕ) → position (has_room need) xs ≡ Some i → need ≤ largest xs
-some_large need xs i e =
-    let d : Piece = record { pos = 0; len = 0; size = 0; kind = Used; owner = Nobody } in
-    let f = is_first (has_room need) xs i d e in
-    let o = offers need (get_or xs i d) f.here in
-    let g = greatest_ge offer xs i d f.within in
-    omega (arith, o, g)
 
 offer_le : (p : Piece) (end : ℕ) → piece_end p ≤ end → offer p ≤ end
 offer_le p end h = cond_both (is_free p) (piece_end p - aligned_up p.pos) 0 (λ (n : ℕ). n ≤ end) (λ e. omega arith) (λ e. omega arith)
@@ -94,16 +83,6 @@ largest_fits at (p ∷ ps) end h =
     let o = offer_le p end (omega (arith, s, h.0.place)) in
     omega (arith, r, o)
 
-pub found_free : (from : ℕ) (xs ys : List Piece) (i : ℕ) (x : Piece) → position (is_roomy_from from) ys ≡ Some i → ys ≡ xs → x ≡ get_or xs i x → Some (x.pos, x.size) ≡ free_from from xs
-found_free from xs ys i x e s r =
-    let f = first_at (is_roomy_from from) xs i x (is_first (is_roomy_from from) xs i x (rw (← s) e)) in
-    rw f (ap (λ (p : Piece). Some (p.pos, p.size)) r)
-
-pub no_free : (from : ℕ) (xs ys : List Piece) → position (is_roomy_from from) ys ≡ None → ys ≡ xs → None ≡ free_from from xs
-no_free from xs ys e s =
-    let f = none_passes (is_roomy_from from) xs (rw (← s) e) in
-    rw f refl
-
 pub small_none : (test : Piece → Bool) (need : ℕ) → ((p : Piece) → test p ≡ true → has_room need p ≡ true) → (xs : List Piece) → largest xs < need → position test xs ≡ None
 small_none test need has xs h =
     let d : Piece = record { pos = 0; len = 0; size = 0; kind = Used; owner = Nobody } in
@@ -111,3 +90,43 @@ small_none test need has xs h =
     let o = offers need (get_or xs k d) (has (get_or xs k d) e) in
     let g = greatest_ge offer xs k d l in
     omega (arith, o, g)))
+
+-- a Free piece of at least 8 bytes offers some
+roomy_offers : (from : ℕ) (p : Piece) → is_roomy_from from p ≡ true → 0 < offer p
+roomy_offers from p e =
+    let a = and_parts (is_roomy p) (nat_le from p.pos) e in
+    let b = and_parts (is_free p) (nat_le 8 p.size) a.0 in
+    let l = leb-true 8 p.size b.1 in
+    rw b.0 (omega (arith, l))
+
+-- so there is none where nothing is offered
+pub no_roomy : (from : ℕ) (ps : List Piece) → largest ps ≤ 0 → first (is_roomy_from from) ps ≡ None
+no_roomy from [] h = refl
+no_roomy from (p ∷ ps) h =
+    let n : is_roomy_from from p ≡ false = false_from_ne_true (is_roomy_from from p) (λ e. let o = roomy_offers from p e in omega (arith, o, h)) in
+    rw n (no_roomy from ps (omega (arith, h)))
+
+-- Of two lists one behind the other.
+
+pub summed_append : (f : Piece → ℕ) (xs ys : List Piece) → summed f (xs ++ ys) ≡ summed f xs + summed f ys
+summed_append f [] ys = omega arith
+summed_append f (x ∷ xs) ys = let r = summed_append f xs ys in omega (arith, r)
+
+pub greatest_append : (f : Piece → ℕ) (xs ys : List Piece) → greatest f (xs ++ ys) ≡ max (greatest f xs) (greatest f ys)
+greatest_append f [] ys = omega arith
+greatest_append f (x ∷ xs) ys = let r = greatest_append f xs ys in omega (arith, r)
+
+-- whether so many bytes fit, by what is offered
+pub nowhere_small : (need : ℕ) → 0 < need → (xs : List Piece) → first (has_room need) xs ≡ None → largest xs < need
+nowhere_small need some [] e = some
+nowhere_small need some (x ∷ xs) e = by (has_room need x) refl (nowhere_small need some xs)
+  where
+    by : (b : Bool) → has_room need x ≡ b → (first (has_room need) xs ≡ None → largest xs < need) → largest (x ∷ xs) < need
+    by true f more = absurd (let g : Some x ≡ None = rw f at e in cc)
+    by false f more = let r = more (rw f at e) in let o = no_offer need x some f in omega (arith, r, o)
+
+pub small_nowhere : (test : Piece → Bool) (need : ℕ) → ((p : Piece) → test p ≡ true → has_room need p ≡ true) → (xs : List Piece) → largest xs < need → first test xs ≡ None
+small_nowhere test need has [] h = refl
+small_nowhere test need has (x ∷ xs) h =
+    let n : test x ≡ false = false_from_ne_true (test x) (λ e. let o = offers need x (has x e) in omega (arith, o, h)) in
+    rw n (small_nowhere test need has xs (omega (arith, h)))

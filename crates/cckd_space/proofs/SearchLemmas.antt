@@ -1,34 +1,14 @@
 -- A search in a part of the list, outside which nothing passes.
-use Rattle.std.proofs.Common.{◌≡◌, ℕ, max, zero, suc, ◌+◌, ◌-◌, ◌<◌, ◌≤◌, nat_le, Bool, true, false, cond, ◌&&◌, ◌==◌, List, [], ◌∷◌, length, take, drop, get_or, Option, Some, None, refl, sym, ◌∙◌, ap, subst, arith, add-one, position, nat_lt, IsSome, inl, inr}
+use Rattle.std.proofs.Common.{◌≡◌, ℕ, zero, suc, ◌+◌, ◌-◌, ◌<◌, ◌≤◌, nat_le, Bool, true, false, cond, ◌&&◌, ◌==◌, List, [], ◌∷◌, length, take, drop, get_or, Option, Some, None, refl, sym, ◌∙◌, ap, subst, arith, position, nat_lt, IsSome, inl, inr}
 use Rattle.std.specs.List.{position_or_len}
 use Rattle.std.proofs.lemmas.Bool.{lt-ltb, le-ltb, cases_lt, ltb-false, and_parts, leb-true, le-leb, lt-leb, eqb-true, false_from_ne_true}
 use Rattle.std.proofs.lemmas.List.{get_or-take, get_or-drop, length-take, length-drop}
 use Rattle.cckd_base.specs.declared.space.Owner.TheVariants.{Nobody}
 use Rattle.cckd_space.specs.declared.piece.Kind.TheVariants.{Used}
 use Rattle.cckd_space.specs.declared.piece.Piece.{Piece}
-use Rattle.cckd_space.specs.Pieces.{begins_by, last, is_free, is_roomy, is_roomy_from, is_reserved_at, is_used_at, used_kind, reserved_kind, has_room, has_room_below, aligned_up, piece_end, first, IsLaid}
-use Rattle.cckd_space.specs.Inside.{IsShut, IsInOrder, StartsAt, is_open}
-use Rattle.cckd_space.proofs.LaidLemmas.{room_facts}
+use Rattle.cckd_space.specs.Pieces.{begins_by, last, is_roomy, is_roomy_from, is_reserved_at, is_used_at, used_kind, reserved_kind, first, IsLaid}
+use Rattle.cckd_space.specs.Inside.{IsInOrder, StartsAt}
 use Rattle.cckd_space.proofs.FirstLemmas.{IsFirstAt, first_at, is_first, none_passes}
-
-pub shut_at : (n : ℕ) (ps : List Piece) (k : ℕ) (d : Piece) → IsShut n ps → k < n → is_open (get_or ps k d) ≡ false
-shut_at zero ps k d h l = absurd (omega arith)
-shut_at (suc n) [] k d h l = absurd h
-shut_at (suc n) (p ∷ ps) zero d h l = h.0
-shut_at (suc n) (p ∷ ps) (suc k) d h l = shut_at n ps k d h.1 (omega arith)
-
-pub shut_within : (n : ℕ) (ps : List Piece) → IsShut n ps → n ≤ length ps
-shut_within zero ps h = omega arith
-shut_within (suc n) [] h = absurd h
-shut_within (suc n) (p ∷ ps) h = let r = shut_within n ps h.1 in omega (arith, r)
-
-pub shut_more : (n : ℕ) (ps : List Piece) (d : Piece) → IsShut n ps → n < length ps → is_open (get_or ps n d) ≡ false → IsShut (suc n) ps
-shut_more n [] d h l e = absurd (omega arith)
-shut_more zero (p ∷ ps) d h l e = (e, tt)
-shut_more (suc n) (p ∷ ps) d h l e = (h.0, shut_more n ps d h.1 (omega arith) e)
-
-pub shut_next : (n : ℕ) (ps : List Piece) (d : Piece) → IsShut n ps → n < length ps → is_open (get_or ps n d) ≡ false → IsShut (n + 1) ps
-shut_next n ps d h l e = subst (λ (m : ℕ). IsShut m ps) (sym (add-one n)) (shut_more n ps d h l e)
 
 module _ (test : Piece → Bool) where
   passed_len : (xs : List Piece) (i : ℕ) (d : Piece) → IsFirstAt test xs i d → position_or_len test xs ≡ i
@@ -117,51 +97,8 @@ module _ (test : Piece → Bool) where
         ]
       ])
 
-free_first : (a b : Bool) → a ≡ false → (a && b) ≡ false
-free_first a b e = rw e refl
-
--- only pieces that offer 8 bytes pass, so none before the first of them does
-pub where_shut : (test : Piece → Bool) → ((p : Piece) → is_open p ≡ false → test p ≡ false) → (xs : List Piece) (solid : ℕ) → IsShut solid xs → IsWhere test xs solid (length xs - solid)
-where_shut test only xs solid h =
-    let w = shut_within solid xs h in
-    record {
-      within = omega (arith, w);
-      before = λ k d l. only (get_or xs k d) (shut_at solid xs k d h l);
-      behind = λ k d o l. absurd (omega (arith, w));
-    }
-
--- what isn't Free offers none
-pub free_shut : (p : Piece) → is_free p ≡ false → is_open p ≡ false
-free_shut p e = free_first (is_free p) (nat_le (aligned_up p.pos + 8) (piece_end p)) e
-
--- where 8 bytes or more fit, 8 do
-pub room_open : (need : ℕ) (p : Piece) → 8 ≤ need → has_room need p ≡ true → is_open p ≡ true
-room_open need p some e =
-    let r = room_facts need p e in
-    rw r.free (le-leb (aligned_up p.pos + 8) (piece_end p) (omega (arith, r.fits)))
-
-pub room_shut : (need : ℕ) → 8 ≤ need → (p : Piece) → is_open p ≡ false → has_room need p ≡ false
-room_shut need some p e = false_from_ne_true (has_room need p) (λ h. let g : true ≡ false = sym (room_open need p some h) ∙ e in cc)
-
-pub room_below_shut : (need before : ℕ) → 8 ≤ need → (p : Piece) → is_open p ≡ false → has_room_below need before p ≡ false
-room_below_shut need before some p e = free_first (has_room need p) (nat_le (aligned_up p.pos + need) before) (room_shut need some p e)
-
--- a space that ends at or below a place is in a piece that begins before it
-too_far : (need before : ℕ) (p : Piece) → 0 < need → before ≤ p.pos → has_room_below need before p ≡ false
-too_far need before p some h = false_from_ne_true (has_room_below need before p) (λ e.
-    let l = leb-true (aligned_up p.pos + need) before (and_parts (has_room need p) (nat_le (aligned_up p.pos + need) before) e).1 in
-    omega (arith, l))
-
-pub where_below : (need before : ℕ) (xs : List Piece) (solid at end : ℕ) → 8 ≤ need → IsShut solid xs → solid ≤ length xs → StartsAt before xs at → end ≡ max at solid
-    → IsWhere (has_room_below need before) xs solid (end - solid)
-where_below need before xs solid at end some h w s e = record {
-  within = omega (arith, s.within);
-  before = λ k d m. room_below_shut need before some (get_or xs k d) (shut_at solid xs k d h m);
-  behind = λ k d o m. too_far need before (get_or xs k d) (omega arith) (s.behind k d (omega arith) m);
-}
-
 -- a piece that starts before a place isn't one from it on
-too_near : (from : ℕ) (p : Piece) → p.pos < from → is_roomy_from from p ≡ false
+pub too_near : (from : ℕ) (p : Piece) → p.pos < from → is_roomy_from from p ≡ false
 too_near from p h = false_from_ne_true (is_roomy_from from p) (λ e.
     let l = leb-true from p.pos (and_parts (is_roomy p) (nat_le from p.pos) e).1 in
     omega (arith, l))
@@ -172,23 +109,6 @@ where_from from xs at s = record {
   before = λ k d m. too_near from (get_or xs k d) (s.before k d m);
   behind = λ k d u m. absurd (omega (arith, s.within));
 }
-
--- the pieces of a file are in order
-laid_from : (at : ℕ) (ps : List Piece) (end : ℕ) (j : ℕ) (d : Piece) → IsLaid at ps end → j < length ps → at ≤ (get_or ps j d).pos
-laid_from at [] end j d h l = absurd (omega arith)
-laid_from at (p ∷ ps) end zero d h l = omega (arith, h.0.place)
-laid_from at (p ∷ ps) end (suc j) d h l = let r = laid_from (at + p.size) ps end j d h.2 (omega arith) in omega (arith, r)
-
-laid_rises : (at : ℕ) (ps : List Piece) (end : ℕ) (i j : ℕ) (d : Piece) → IsLaid at ps end → i < j → j < length ps → (get_or ps i d).pos < (get_or ps j d).pos
-laid_rises at [] end i j d h l m = absurd (omega arith)
-laid_rises at (p ∷ ps) end i zero d h l m = absurd (omega arith)
-laid_rises at (p ∷ ps) end zero (suc j) d h l m =
-    let r = laid_from (at + p.size) ps end j d h.2 (omega arith) in
-    omega (arith, r, h.0.place, h.0.some)
-laid_rises at (p ∷ ps) end (suc i) (suc j) d h l m = laid_rises (at + p.size) ps end i j d h.2 (omega arith) (omega arith)
-
-pub laid_order : (ps : List Piece) (end : ℕ) → IsLaid 0 ps end → IsInOrder ps
-laid_order ps end h = record { each = λ i j d l m. laid_rises 0 ps end i j d h l m }
 
 -- the piece that passes a test which only one at this place can pass is the one that a search finds
 pub found_at : (test : Piece → Bool) (pos : ℕ) (xs : List Piece) (at : ℕ) (d : Piece) → ((p : Piece) → test p ≡ true → p.pos ≡ pos) → IsInOrder xs → StartsAt pos xs at → IsSome (first test xs) → IsFirstAt test xs at d

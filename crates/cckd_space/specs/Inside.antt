@@ -1,31 +1,16 @@
 -- What always holds of the fields of a `Space`, and words for its parts.
-use Rattle.std.specs.Prelude.{◌≡◌, ℕ, zero, suc, ◌+◌, ◌<◌, ◌≤◌, nat_lt, Bool, false, List, [], ◌∷◌, ◌++◌, length, slice_index_or}
+use Rattle.std.specs.Prelude.{◌≡◌, ℕ, ◌+◌, ◌<◌, ◌≤◌, nat_lt, Bool, List, [], ◌∷◌, ◌++◌, length, slice_index_or}
 use Rattle.cckd_space.specs.declared.piece.Piece.{Piece}
-use Rattle.cckd_space.specs.Pieces.{NotBothFree, IsLaid, counted, is_leaving, is_pending, has_room, largest, piece_end}
-
--- a Free piece in which 8 bytes fit, the least that may be asked for
-abbrev pub is_open : Piece → Bool
-is_open = has_room 8
-
--- so many first pieces are there, and none of them offers 8 bytes
-abbrev pub IsShut : ℕ → List Piece → Type 0
-IsShut zero ps = Unit {0}
-IsShut (suc n) [] = ⊥
-IsShut (suc n) (p ∷ ps) = (is_open p ≡ false) × IsShut n ps
+use Rattle.cckd_space.specs.Pieces.{NotBothFree, IsLaid, counted, is_leaving, is_pending, largest, piece_end}
 
 -- one mark says whether there is a Leaving piece, the other whether there is a Pending one
 pub record IsMarked (pieces : List Piece) (leaving pending : Bool) : Type 0 where
   pub some_leaving : leaving ≡ nat_lt 0 (counted is_leaving pieces)
   pub some_pending : pending ≡ nat_lt 0 (counted is_pending pieces)
 
--- the pieces cover the file, there are no more than the slots, and there is memory for as many as the slots;
--- no piece before an index offers 8 bytes, none offers more than a number, and the marks are true of its Leaving and Pending pieces
-pub record IsKept (pieces : List Piece) (size slots capacity solid most : ℕ) (leaving pending : Bool) : Type 0 where
+-- the pieces cover the file, none offers more than a number, and the marks are true of its Leaving and Pending pieces
+pub record IsKept (pieces : List Piece) (size most : ℕ) (leaving pending : Bool) : Type 0 where
   pub laid : IsLaid 0 pieces size
-  pub fewer : length pieces ≤ slots
-  pub room : slots ≤ capacity
-  pub within : solid ≤ length pieces
-  pub shut : IsShut solid pieces
   pub offers : largest pieces ≤ most
   pub marked : IsMarked pieces leaving pending
 

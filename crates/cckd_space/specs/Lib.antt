@@ -1,3 +1,4 @@
+pub mod Blocks
 pub mod Inside
 pub mod Pieces
 pub mod Plan

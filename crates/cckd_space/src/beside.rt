@@ -20,10 +20,22 @@ pub(crate) struct Pair {
     seed: u32,
 }
 
+/// How many pieces may stand in a block: so few that borders are met often, or as many as elsewhere.
+fn block_size(seed: u32) -> usize
+    ensures least { 4 ≤ result }
+    ensures most { result ≤ 126 }
+{
+    if seed % 4 == 3 {
+        126
+    } else {
+        4 + (seed % 4) as usize
+    }
+}
+
 fn started(alloc: Global, used: &[Extent], size: u32, limit: u32, seed: u32) -> Result<Pair, Fail>
     requires { StandApart 0 used.now size }
 {
-    let space = Space::from_used(alloc, used, size, limit, 0)?;
+    let space = Space::in_blocks(alloc, used, size, limit, 0, block_size(seed))?;
     let bytes = plain::start(alloc, used, size)?;
     Ok(Pair {
         space,

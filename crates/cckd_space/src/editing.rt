@@ -28,11 +28,23 @@ ghost use Rattle.cckd_space.specs.Pieces.{
   offer,
 };
 ghost use Rattle.std.specs.Option.{option_map};
-ghost use Rattle.cckd_space.specs.Inside.{size_of, AreMerged, EndsAt, EndsBelow, IsInOrder, IsShut};
+ghost use Rattle.cckd_space.specs.Inside.{size_of, AreMerged, EndsAt, EndsBelow, IsInOrder};
 
-use crate::finding::{reserved_index, room_below_index, used_index};
+use crate::finding::{first_room_below, reserved_index, used_index};
 use crate::piece::{Piece, align, free, reserved};
 use cckd_base::Owner;
+
+/// Puts a piece behind the list.
+pub(crate) fn push_piece(pieces: &mut Vec<Piece>, piece: Piece)
+    requires room { vec_len pieces.old < vec_capacity pieces.old }
+    ensures items { pieces.new.items ≡ pieces.old.items ++ piece ∷ [] }
+    ensures len { vec_len pieces.new ≡ vec_len pieces.old + 1 }
+    ensures capacity { vec_capacity pieces.old ≤ vec_capacity pieces.new }
+{
+    let Ok(()) = pieces.push(piece) else {
+        unreachable!();
+    };
+}
 
 /// Puts the free bytes between two places into the list, if there are any.
 fn put_run(pieces: &mut Vec<Piece>, at: usize, from: u32, to: u32)
@@ -47,17 +59,6 @@ fn put_run(pieces: &mut Vec<Piece>, at: usize, from: u32, to: u32)
             unreachable!();
         };
     }
-}
-
-/// Puts the free bytes between two places behind the list, if there are any.
-pub(crate) fn push_run(pieces: &mut Vec<Piece>, from: u32, to: u32)
-    requires room { from < to → vec_len pieces.old < vec_capacity pieces.old }
-    ensures items { pieces.new.items ≡ pieces.old.items ++ free_run from to }
-    ensures len { vec_len pieces.new ≤ vec_len pieces.old + 1 }
-    ensures capacity { vec_capacity pieces.old ≤ vec_capacity pieces.new }
-{
-    let count = pieces.len();
-    put_run(pieces, count, from, to);
 }
 
 /// Reserves the first `need` bytes from the first multiple of 8 of the piece at this index.
@@ -92,18 +93,8 @@ pub(crate) fn reserve_found(pieces: &mut Vec<Piece>, at: usize, need: u32) -> u3
     reserve_at(pieces, at, need)
 }
 
-/// Reserves so many bytes at the first fit that ends at or below a place, and answers where. No
-/// piece before `solid` offers 8.
-pub(crate) fn reserve_below(
-    pieces: &mut Vec<Piece>,
-    solid: usize,
-    need: u32,
-    before: u32,
-) -> Option<u32>
-    requires some { 8 ≤ need }
-    requires within { solid ≤ vec_len pieces.old }
-    requires shut { IsShut solid pieces.old.items }
-    requires order { IsInOrder pieces.old.items }
+/// Reserves so many bytes at the first fit that ends at or below a place, and answers where.
+pub(crate) fn reserve_below(pieces: &mut Vec<Piece>, need: u32, before: u32) -> Option<u32>
     requires room { vec_len pieces.old + 2 ≤ vec_capacity pieces.old }
     requires ends { EndsBelow pieces.old.items (2 ^ 32) }
     ensures place { result ≡ option_map (λ p. aligned_up p.pos) (first (has_room_below need before) pieces.old.items) }
@@ -111,7 +102,7 @@ pub(crate) fn reserve_below(
     ensures len { vec_len pieces.new ≤ vec_len pieces.old + 2 }
     ensures capacity { vec_capacity pieces.old ≤ vec_capacity pieces.new }
 {
-    let Some(at) = room_below_index(pieces.as_slice(), solid, need, before) else {
+    let Some(at) = first_room_below(pieces.as_slice(), need, before) else {
         return None;
     };
     Some(reserve_at(pieces, at, need))
@@ -147,24 +138,6 @@ pub(crate) fn cut_end(pieces: &mut Vec<Piece>, len: u32, size: u32)
         pieces.truncate(count - 1);
         put_run(pieces, count - 1, last.pos, len.min(size));
     }
-}
-
-/// Reserves so many bytes at the end of the file, whose used part ends at `end`.
-pub(crate) fn reserve_end(pieces: &mut Vec<Piece>, end: u32, size: u32, need: u32)
-    requires ends { EndsAt pieces.old.items size }
-    requires end { end ≡ used_end pieces.old.items }
-    requires room { vec_len pieces.old + 2 ≤ vec_capacity pieces.old }
-    requires fits { end_place pieces.old.items + need < 2 ^ 32 }
-    ensures items { pieces.new.items ≡ appended need pieces.old.items }
-    ensures len { vec_len pieces.new ≤ vec_len pieces.old + 2 }
-    ensures capacity { vec_capacity pieces.old ≤ vec_capacity pieces.new }
-{
-    cut_end(pieces, 0, size);
-    let place = align(end) as u32;
-    push_run(pieces, end, place);
-    let Ok(()) = pieces.push(reserved(place, need)) else {
-        unreachable!();
-    };
 }
 
 /// Turns the Reserved piece at `pos` into a Used one.

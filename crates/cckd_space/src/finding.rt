@@ -1,8 +1,7 @@
 //! Where a piece stands in the list.
 ghost use Rattle.std.specs.Prelude.{◌≡◌, ◌+◌, ◌<◌, ◌≤◌, length, position, IsSome, IsTrue, Some, slice_get, slice_index_or};
-ghost use Rattle.std.specs.List.{position_or_len};
-ghost use Rattle.cckd_space.specs.Inside.{IsInOrder, IsShut, StartsAt, is_open};
-ghost use Rattle.cckd_space.specs.Pieces.{begins_by, first, has_room, has_room_below, is_pending, is_reserved_at, is_roomy_from, is_used_at, last};
+ghost use Rattle.cckd_space.specs.Inside.{IsInOrder, StartsAt};
+ghost use Rattle.cckd_space.specs.Pieces.{begins_by, first, has_room, has_room_below, is_reserved_at, is_roomy_from, is_used_at, last};
 ghost use Rattle.cckd_space.specs.Plan.{first_fit_below};
 
 use crate::piece::{Piece, align};
@@ -95,32 +94,13 @@ pub(crate) fn used_index(pieces: &[Piece], pos: u32) -> usize
     start_index(pieces, pos)
 }
 
-/// The index of the first piece that offers 8 bytes, none of which stands before `solid`, or else
-/// the number of pieces.
-pub(crate) fn open_index(pieces: &[Piece], solid: usize) -> usize
-    requires within { solid ≤ length pieces.now }
-    requires shut { IsShut solid pieces.now }
-    ensures within { result ≤ length pieces.now }
-    ensures shut { IsShut result pieces.now }
-    ensures open { (d : Piece) → result < length pieces.now → IsTrue (is_open (slice_index_or pieces.now result d)) }
-{
-    let mut at = solid;
-    while at < pieces.len() {
-        if pieces[at].is_open() {
-            return at;
-        }
-        at += 1;
-    }
-    at
-}
-
-fn first_room(pieces: &[Piece], need: u32) -> Option<usize>
+pub(crate) fn first_room(pieces: &[Piece], need: u32) -> Option<usize>
     ensures { result ≡ position (has_room need) pieces.now }
 {
     pieces.iter().position(|p| p.has_room(need))
 }
 
-fn first_room_below(pieces: &[Piece], need: u32, before: u32) -> Option<usize>
+pub(crate) fn first_room_below(pieces: &[Piece], need: u32, before: u32) -> Option<usize>
     ensures { result ≡ position (has_room_below need before) pieces.now }
 {
     pieces.iter().position(|p| p.has_room_below(need, before))
@@ -132,62 +112,18 @@ fn first_roomy(pieces: &[Piece], from: u32) -> Option<usize>
     pieces.iter().position(|p| p.is_roomy_from(from))
 }
 
-fn first_pending(pieces: &[Piece]) -> Option<usize>
-    ensures { result ≡ position is_pending pieces.now }
-{
-    pieces.iter().position(|p| p.is_pending())
-}
-
-/// The first piece in which so many bytes fit. No piece before `solid` offers 8.
-pub(crate) fn room_index(pieces: &[Piece], solid: usize, need: u32) -> Option<usize>
-    requires some { 8 ≤ need }
-    requires within { solid ≤ length pieces.now }
-    requires shut { IsShut solid pieces.now }
-    ensures { result ≡ position (has_room need) pieces.now }
-{
-    let Some(at) = first_room(&pieces[solid..], need) else {
-        return None;
-    };
-    Some(solid + at)
-}
-
-/// The first piece in which so many bytes fit and end at or below a place. No piece before `solid`
-/// offers 8.
-pub(crate) fn room_below_index(
-    pieces: &[Piece],
-    solid: usize,
-    need: u32,
-    before: u32,
-) -> Option<usize>
-    requires some { 8 ≤ need }
-    requires within { solid ≤ length pieces.now }
-    requires shut { IsShut solid pieces.now }
-    requires order { IsInOrder pieces.now }
-    ensures { result ≡ position (has_room_below need before) pieces.now }
-{
-    let end = start_index(pieces, before).max(solid);
-    let Some(at) = first_room_below(&pieces[solid..end], need, before) else {
-        return None;
-    };
-    Some(solid + at)
-}
-
-/// Where so many bytes first fit and end at or below a place. No piece before `solid` offers 8.
-pub(crate) fn place_below(pieces: &[Piece], solid: usize, need: u32, before: u32) -> Option<u32>
-    requires some { 8 ≤ need }
-    requires within { solid ≤ length pieces.now }
-    requires shut { IsShut solid pieces.now }
-    requires order { IsInOrder pieces.now }
+/// Where so many bytes first fit and end at or below a place.
+pub(crate) fn place_below(pieces: &[Piece], need: u32, before: u32) -> Option<u32>
     ensures { result ≡ first_fit_below need before pieces.now }
 {
-    let Some(at) = room_below_index(pieces, solid, need, before) else {
+    let Some(at) = first_room_below(pieces, need, before) else {
         return None;
     };
     Some(align(pieces[at].pos) as u32)
 }
 
 /// The first free piece of at least 8 bytes that starts at or after a place.
-pub(crate) fn roomy_index(pieces: &[Piece], from: u32) -> Option<usize>
+fn roomy_index(pieces: &[Piece], from: u32) -> Option<usize>
     requires { IsInOrder pieces.now }
     ensures { result ≡ position (is_roomy_from from) pieces.now }
 {
@@ -198,12 +134,13 @@ pub(crate) fn roomy_index(pieces: &[Piece], from: u32) -> Option<usize>
     Some(start + at)
 }
 
-/// How many pieces stand before the first Pending one.
-pub(crate) fn pending_index(pieces: &[Piece]) -> usize
-    ensures { result ≡ position_or_len is_pending pieces.now }
+/// The first free piece of at least 8 bytes that starts at or after a place.
+pub(crate) fn roomy_from(pieces: &[Piece], from: u32) -> Option<Piece>
+    requires { IsInOrder pieces.now }
+    ensures { result ≡ first (is_roomy_from from) pieces.now }
 {
-    let Some(at) = first_pending(pieces) else {
-        return pieces.len();
+    let Some(at) = roomy_index(pieces, from) else {
+        return None;
     };
-    at
+    Some(pieces[at])
 }

@@ -3,14 +3,21 @@
 
 #[cfg(test)]
 mod beside;
+mod block;
+mod blocks;
+mod border;
 mod editing;
+mod ends;
 mod finding;
 mod making;
+mod order;
 mod piece;
 mod pieces;
 #[cfg(test)]
 mod plain;
+mod release;
 mod space;
+mod store;
 #[cfg(test)]
 mod tests;
 mod totals;

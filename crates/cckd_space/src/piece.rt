@@ -3,6 +3,7 @@ ghost use Rattle.std.specs.Prelude.{◌≡◌, ◌+◌, ◌<◌, ◌^◌, ◌&&�
 ghost use Rattle.cckd_space.specs.Pieces.{
   is_free,
   is_used,
+  is_leaving,
   is_pending,
   is_roomy,
   is_roomy_from,
@@ -23,7 +24,6 @@ ghost use Rattle.cckd_space.specs.Pieces.{
   used_len,
   roomy_len,
 };
-ghost use Rattle.cckd_space.specs.Inside.{is_open};
 
 use cckd_base::{Extent, Owner};
 
@@ -205,11 +205,16 @@ impl Piece {
         self.has_room(need) && align(self.pos) + need as u64 <= before as u64
     }
 
-    /// Whether it is free and offers the least that may be asked for.
-    pub(crate) fn is_open(&self) -> bool
-        ensures { result ≡ is_open self.now }
+    pub(crate) fn is_leaving(&self) -> bool
+        ensures { result ≡ is_leaving self.now }
     {
-        self.has_room(8)
+        match self.kind {
+            Kind::Leaving => true,
+            Kind::Used => false,
+            Kind::Free => false,
+            Kind::Reserved => false,
+            Kind::Pending => false,
+        }
     }
 
     pub(crate) fn is_pending(&self) -> bool

@@ -1,44 +1,45 @@
 //! What callers read of a list of pieces.
-ghost use Rattle.std.specs.Prelude.{◌≡◌, ◌<◌, length, slice_get, Some};
+ghost use Rattle.std.specs.Prelude.{◌≡◌, ◌<◌, ◌^◌, length, slice_get, Some};
 ghost use Rattle.cckd_space.specs.Pieces.{begins_by, last};
 
-use crate::finding::{last_by, piece_at};
+use crate::block::Block;
+use crate::order::{count_in, last_in, piece_in};
 use crate::piece::Piece;
 use std::marker::Model;
 
 /// The pieces of a space, in order of position, to be read. Contracts see the list.
 #[derive(Drop)]
 pub struct Pieces<'a> {
-    pieces: &'a [Piece],
+    blocks: &'a [Block],
 }
 
 impl<'a> Model for Pieces<'a> {
     ghost use Rattle.std.specs.Prelude.{List};
     ghost use Rattle.cckd_space.specs.declared.piece.Piece.{Piece as OnePiece};
-    ghost use Rattle.cckd_space.specs.Inside.{IsInOrder};
+    ghost use Rattle.cckd_space.specs.Blocks.{AreRead, whole};
 
     ghost Value = { List OnePiece };
 
-    ghost view = { λ p. p.pieces.now };
+    ghost view = { λ p. whole p.blocks.now };
 
-    ghost invariant = { λ p. IsInOrder p.pieces.now };
+    ghost invariant = { λ p. AreRead p.blocks.now };
 }
 
 impl<'a> Pieces<'a> {
-    ghost use Rattle.cckd_space.specs.Inside.{IsInOrder};
+    ghost use Rattle.cckd_space.specs.Blocks.{AreRead, whole};
 
-    pub(crate) fn new(pieces: &'a [Piece]) -> Pieces<'a>
-        requires { IsInOrder pieces.now }
-        ensures { result ≡ pieces.now }
+    pub(crate) fn new(blocks: &'a [Block]) -> Pieces<'a>
+        requires { AreRead blocks.now }
+        ensures { result ≡ whole blocks.now }
     {
-        Pieces { pieces }
+        Pieces { blocks }
     }
 
     /// How many pieces there are.
     pub fn len(&self) -> usize
         ensures { result ≡ length self.now }
     {
-        self.pieces.len()
+        count_in(self.blocks)
     }
 
     /// The piece of a number, which counts from 0.
@@ -46,37 +47,45 @@ impl<'a> Pieces<'a> {
         requires { number < length self.now }
         ensures { slice_get self.now number ≡ Some result }
     {
-        piece_at(self.pieces, number)
+        piece_in(self.blocks, number)
     }
 
     /// The piece that begins at a place, or else the last one before it.
     pub fn at_or_before(&self, pos: u32) -> Option<Piece>
         ensures { result ≡ last (begins_by pos) self.now }
     {
-        last_by(self.pieces, pos)
+        last_in(self.blocks, pos)
     }
 
     /// The pieces one by one.
     pub fn iter(&self) -> PieceIter<'a>
         ensures { result ≡ self.now }
     {
-        PieceIter { rest: self.pieces }
+        PieceIter {
+            rest: &[],
+            blocks: self.blocks,
+        }
     }
 }
 
 /// The pieces that are still to come.
 #[derive(Drop)]
 pub struct PieceIter<'a> {
+    // Those of one block, and the blocks behind it.
     rest: &'a [Piece],
+    blocks: &'a [Block],
 }
 
 impl<'a> Model for PieceIter<'a> {
-    ghost use Rattle.std.specs.Prelude.{List};
+    ghost use Rattle.std.specs.Prelude.{List, ◌++◌};
     ghost use Rattle.cckd_space.specs.declared.piece.Piece.{Piece as OnePiece};
+    ghost use Rattle.cckd_space.specs.Blocks.{AreFilled, whole};
 
     ghost Value = { List OnePiece };
 
-    ghost view = { λ p. p.rest.now };
+    ghost view = { λ p. p.rest.now ++ whole p.blocks.now };
+
+    ghost invariant = { λ p. AreFilled p.blocks.now };
 }
 
 impl<'a> Iterator for PieceIter<'a> {
@@ -89,8 +98,14 @@ impl<'a> Iterator for PieceIter<'a> {
     ghost remaining = { item_count (λ rest. rest) };
 
     fn next(&mut self) -> Option<Piece> {
-        let (first, others) = self.rest.split_first()?;
-        self.rest = others;
+        if let Some((first, others)) = self.rest.split_first() {
+            self.rest = others;
+            return Some(*first);
+        }
+        let (block, others) = self.blocks.split_first()?;
+        let (first, rest) = block.pieces().split_first()?;
+        self.rest = rest;
+        self.blocks = others;
         Some(*first)
     }
 }

@@ -1,16 +1,11 @@
 //! The space of a file.
-ghost use Rattle.std.specs.Prelude.{◌≡◌, ◌+◌, ◌-◌, ◌*◌, ◌%◌, ◌<◌, ◌≤◌, ◌↔◌, ◌^◌, [], ◌∷◌, length, map, min, max, IfOk, OnOk, OnErr, IfErr, IsErr, IsOk, IsTrue, IsSome, IfSome, OnSome, None, Some, position, false};
-ghost use Rattle.std.specs.Vec.{vec_len, vec_capacity};
+ghost use Rattle.std.specs.Prelude.{◌≡◌, ◌+◌, ◌-◌, ◌*◌, ◌%◌, ◌<◌, ◌≤◌, ◌↔◌, ◌^◌, [], ◌∷◌, length, map, min, max, IfOk, OnOk, OnErr, IfErr, IsErr, IsOk, IsTrue, IsSome, IfSome, IfNone, None, Some, false};
 
-use crate::editing::{
-    cut_end, free_at, free_end, leave_piece, merge, release_pieces, reserve_below, reserve_end,
-    reserve_found, retire_pieces, settle_piece,
-};
-use crate::finding::{self, open_index, pending_index, reserved_index, room_index, roomy_index};
+use crate::blocks::Blocks;
 use crate::making::list_pieces;
 use crate::piece::{Piece, Totals, align};
 use crate::pieces::Pieces;
-use crate::totals::{add_up, largest_offer, roomy_first};
+use crate::totals::start_or_zero;
 use cckd_base::{Extent, Full, Memory, Owner};
 use std::alloc::Global;
 use std::marker::Model;
@@ -19,13 +14,9 @@ use std::marker::Model;
 /// the size that it may grow to, and how many pieces may still be added without taking memory.
 #[derive(Drop)]
 pub struct Space {
-    pieces: Vec<Piece>,
+    pieces: Blocks,
     size: u32,
     limit: u32,
-    // How many pieces there may be.
-    slots: usize,
-    // None of so many first pieces offers 8 bytes.
-    solid: usize,
     // No piece offers more bytes.
     most: u64,
     // Whether there is a Leaving piece, and whether there is a Pending one.
@@ -36,14 +27,12 @@ pub struct Space {
 impl Model for Space {
     ghost use Rattle.cckd_space.specs.Plan.{Plan};
     ghost use Rattle.cckd_space.specs.Inside.{IsKept};
-    ghost use Rattle.std.specs.Vec.{vec_capacity};
-    ghost use Rattle.std.specs.Prelude.{◌-◌, length};
 
     ghost Value = { Plan };
 
-    ghost view = { λ s. record { pieces = s.pieces.items; size = s.size; limit = s.limit; spare = s.slots - length s.pieces.items } };
+    ghost view = { λ s. record { pieces = s.pieces.pieces; size = s.size; limit = s.limit; spare = s.pieces.spare } };
 
-    ghost invariant = { λ s. IsKept s.pieces.items s.size s.slots (vec_capacity s.pieces) s.solid s.most s.leaving s.pending };
+    ghost invariant = { λ s. IsKept s.pieces.pieces s.size s.most s.leaving s.pending };
 }
 
 impl Space {
@@ -64,14 +53,29 @@ impl Space {
         ensures plan { IfOk result (IsPlanOf used.now size limit spare) }
         ensures sound { IfOk result IsSound }
     {
-        let pieces = list_pieces(alloc, used, size, spare as usize)?;
-        let slots = pieces.len() + spare as usize;
+        Space::in_blocks(alloc, used, size, limit, spare, 126)
+    }
+
+    /// The same, with at most so many pieces in a block.
+    pub(crate) fn in_blocks(
+        alloc: Global,
+        used: &[Extent],
+        size: u32,
+        limit: u32,
+        spare: u32,
+        full: usize,
+    ) -> Result<Space, Memory>
+        requires used { StandApart 0 used.now size }
+        requires least { 4 ≤ full }
+        requires most { full ≤ 126 }
+        ensures plan { IfOk result (IsPlanOf used.now size limit spare) }
+        ensures sound { IfOk result IsSound }
+    {
+        let pieces = list_pieces(alloc, used, size, spare, full)?;
         Ok(Space {
             pieces,
             size,
             limit,
-            slots,
-            solid: 0,
             most: size as u64,
             leaving: false,
             pending: false,
@@ -86,12 +90,7 @@ impl Space {
         ensures same { OnErr result (self.new ≡ self.old) }
         ensures sound { IsSound self.new }
     {
-        let wanted = self.pieces.len() + more as usize;
-        if self.slots < wanted {
-            self.pieces.reserve(more as usize)?;
-            self.slots = wanted;
-        }
-        Ok(())
+        self.pieces.grow(more)
     }
 
     /// Reserves `need` bytes at the first fit, or else at the end of the file.
@@ -115,53 +114,28 @@ impl Space {
         ensures clear { IfOk result (λ pos. IsClear self.old.pieces pos need) }
         ensures within { IfOk result (λ pos. pos + need ≤ max self.old.limit self.old.size) }
     {
-        match self.find_room(need) {
-            Some(at) => Ok(self.place_found(at, need)),
+        match self.place_first(need) {
+            Some(pos) => Ok(pos),
             None => self.place_at_end(need),
         }
     }
 
-    /// Whether a free piece may have room for so many bytes. A search for one begins at `solid` then.
-    fn may_fit(&mut self, need: u32) -> bool
-        ensures none { result ≡ false → largest self.old.pieces < need }
-        ensures same { self.new ≡ self.old }
+    /// Reserves `need` bytes at the first fit, if there is one.
+    fn place_first(&mut self, need: u32) -> Option<u32>
+        requires need { 8 ≤ need }
+        requires spare { 2 ≤ self.old.spare }
+        ensures placed { result ≡ first_fit need self.old.pieces }
+        ensures reserved { Becomes self.old self.new (replaced (has_room need) (reserved_in need) self.old.pieces) self.old.size }
+        ensures none { IfNone result (self.new ≡ self.old) }
+        ensures there { IfSome result (λ pos. first (is_reserved_at pos) self.new.pieces ≡ Some (reserved_piece pos need)) }
+        ensures spent { self.old.spare ≤ self.new.spare + 2 }
+        ensures was { IsSound self.old }
         ensures sound { IsSound self.new }
     {
         if self.most < need as u64 {
-            return false;
-        }
-        self.solid = open_index(self.pieces.as_slice(), self.solid);
-        true
-    }
-
-    /// The index of the first piece in which so many bytes fit.
-    fn find_room(&mut self, need: u32) -> Option<usize>
-        requires { 8 ≤ need }
-        ensures found { result ≡ position (has_room need) self.old.pieces }
-        ensures same { self.new ≡ self.old }
-        ensures sound { IsSound self.new }
-    {
-        if !self.may_fit(need) {
             return None;
         }
-        let found = room_index(self.pieces.as_slice(), self.solid, need);
-        if found.is_none() {
-            self.most = need as u64 - 1;
-        }
-        found
-    }
-
-    fn place_found(&mut self, at: usize, need: u32) -> u32
-        requires found { position (has_room need) self.old.pieces ≡ Some at }
-        requires need { 8 ≤ need }
-        requires spare { 2 ≤ self.old.spare }
-        ensures placed { Some result ≡ first_fit need self.old.pieces }
-        ensures reserved { Becomes self.old self.new (replaced (has_room need) (reserved_in need) self.old.pieces) self.old.size }
-        ensures there { first (is_reserved_at result) self.new.pieces ≡ Some (reserved_piece result need) }
-        ensures spent { self.old.spare ≤ self.new.spare + 2 }
-        ensures sound { IsSound self.new }
-    {
-        reserve_found(&mut self.pieces, at, need)
+        self.pieces.reserve(need)
     }
 
     /// Reserves bytes at the end of the file, where no free piece offers as many.
@@ -179,15 +153,15 @@ impl Space {
         ensures sound { IsSound self.new }
         ensures within { IfOk result (λ pos. pos + need ≤ self.old.limit) }
     {
-        let end = free_end(self.pieces.as_slice(), self.size);
+        let end = self.pieces.free_end(self.size);
         let place = align(end);
         if place + need as u64 <= self.limit as u64 {
-            self.solid = self.solid.min(self.pieces.len().saturating_sub(1));
-            reserve_end(&mut self.pieces, end, self.size, need);
+            self.pieces.reserve_end(end, self.size, need);
+            self.most = need as u64 - 1;
             self.size = place as u32 + need;
             return Ok(place as u32);
         }
-        self.most = largest_offer(self.pieces.as_slice());
+        self.most = self.pieces.largest();
         let largest = self.most as u32;
         let room = (self.limit as u64).saturating_sub(place) as u32;
         Err(Full {
@@ -209,10 +183,10 @@ impl Space {
         ensures clear { IfSome result (λ pos. IsClear self.old.pieces pos need) }
         ensures within { IfSome result (λ pos. pos + need ≤ min before self.old.size) }
     {
-        if !self.may_fit(need) {
+        if self.most < need as u64 {
             return None;
         }
-        reserve_below(&mut self.pieces, self.solid, need, before)
+        self.pieces.reserve_below(need, before)
     }
 
     /// Where so many bytes would go that have to end at or below `before`.
@@ -223,7 +197,7 @@ impl Space {
         if self.most < need as u64 {
             return None;
         }
-        finding::place_below(self.pieces.as_slice(), self.solid, need, before)
+        self.pieces.fits_below(need, before)
     }
 
     /// The pieces, in order of position.
@@ -232,21 +206,21 @@ impl Space {
         ensures sound { IsSound self.now }
         ensures covers { CoversBytes self.now }
     {
-        Pieces::new(self.pieces.as_slice())
+        self.pieces.view()
     }
 
     /// The Used piece at `pos`, if there is one.
     pub fn used_at(&self, pos: u32) -> Option<Piece>
         ensures { result ≡ first (is_used_at pos) self.now.pieces }
     {
-        finding::used_at(self.pieces.as_slice(), pos)
+        self.pieces.used_at(pos)
     }
 
     /// The Reserved piece at `pos`, if there is one.
     pub fn reserved_at(&self, pos: u32) -> Option<Piece>
         ensures { result ≡ first (is_reserved_at pos) self.now.pieces }
     {
-        finding::reserved_at(self.pieces.as_slice(), pos)
+        self.pieces.reserved_at(pos)
     }
 
     /// Whether there is a Leaving piece.
@@ -273,7 +247,7 @@ impl Space {
         ensures spent { self.new.spare ≡ self.old.spare }
         ensures sound { IsSound self.new }
     {
-        settle_piece(&mut self.pieces, pos, len, owner);
+        self.pieces.settle(pos, len, owner);
     }
 
     /// Turns the Used piece at `pos` into a Leaving one.
@@ -283,7 +257,7 @@ impl Space {
         ensures spent { self.new.spare ≡ self.old.spare }
         ensures sound { IsSound self.new }
     {
-        leave_piece(&mut self.pieces, pos);
+        self.pieces.leave(pos);
         self.leaving = true;
     }
 
@@ -296,7 +270,7 @@ impl Space {
         if !self.leaving {
             return;
         }
-        retire_pieces(&mut self.pieces);
+        self.pieces.retire();
         self.leaving = false;
         self.pending = true;
     }
@@ -308,9 +282,7 @@ impl Space {
         ensures spent { self.old.spare ≤ self.new.spare }
         ensures sound { IsSound self.new }
     {
-        let at = reserved_index(self.pieces.as_slice(), pos);
-        let offered = free_at(&mut self.pieces, at);
-        self.solid = self.solid.min(at.saturating_sub(1));
+        let offered = self.pieces.give_back(pos);
         self.most = self.most.max(offered);
     }
 
@@ -323,11 +295,7 @@ impl Space {
         if !self.pending {
             return;
         }
-        let first = pending_index(self.pieces.as_slice());
-        release_pieces(&mut self.pieces);
-        merge(&mut self.pieces);
-        self.solid = self.solid.min(first.saturating_sub(1));
-        self.most = largest_offer(self.pieces.as_slice());
+        self.most = self.pieces.release();
         self.pending = false;
     }
 
@@ -338,9 +306,8 @@ impl Space {
         ensures spent { self.old.spare ≤ self.new.spare }
         ensures sound { IsSound self.new }
     {
-        let end = free_end(self.pieces.as_slice(), self.size);
-        self.solid = self.solid.min(self.pieces.len().saturating_sub(1));
-        cut_end(&mut self.pieces, 0, self.size);
+        let end = self.pieces.free_end(self.size);
+        self.pieces.cut_end(0, self.size);
         self.size = end;
         end
     }
@@ -351,9 +318,8 @@ impl Space {
         ensures spent { self.old.spare ≤ self.new.spare }
         ensures sound { IsSound self.new }
     {
-        let end = free_end(self.pieces.as_slice(), self.size);
-        self.solid = self.solid.min(self.pieces.len().saturating_sub(1));
-        cut_end(&mut self.pieces, len, self.size);
+        let end = self.pieces.free_end(self.size);
+        self.pieces.cut_end(len, self.size);
         self.size = end.max(len.min(self.size));
     }
 
@@ -363,12 +329,11 @@ impl Space {
         ensures whole { result.used + result.free_total + result.free_imbed ≡ result.size }
     {
         let size = self.size;
-        let pieces = self.pieces.as_slice();
-        let sums = add_up(pieces);
+        let sums = self.pieces.add_up();
         Totals {
             size,
             used: sums.used,
-            free: roomy_first(pieces),
+            free: start_or_zero(self.pieces.roomy_from(0)),
             free_total: sums.total,
             free_largest: sums.largest,
             free_number: sums.number,
@@ -381,10 +346,9 @@ impl Space {
     pub fn next_free(&self, from: u32) -> Option<(u32, u32)>
         ensures { result ≡ free_from from self.now.pieces }
     {
-        let Some(at) = roomy_index(self.pieces.as_slice(), from) else {
+        let Some(piece) = self.pieces.roomy_from(from) else {
             return None;
         };
-        let piece = self.pieces[at];
         Some((piece.pos, piece.size))
     }
 }

@@ -281,6 +281,84 @@ fn a_table_given_back_leaves_the_header_alone(rt: HostRuntime) -> Result<(), Fai
     same_pieces(&rt, &space, left.as_slice())
 }
 
+/// Puts a used space of 64 bytes where it fits first.
+fn put_used(space: &mut Space, number: u32) -> Result<Option<u32>, Fail> {
+    space.grow(2)?;
+    let Ok(pos) = space.place(64) else {
+        return Ok(None);
+    };
+    space.settle(pos, 64, Owner::Track(number));
+    Ok(Some(pos))
+}
+
+fn leave_used(space: &mut Space, pos: u32) {
+    if space.used_at(pos).is_some() {
+        space.leave(pos);
+    }
+}
+
+fn give_back_reserved(space: &mut Space, pos: u32) {
+    if space.reserved_at(pos).is_some() {
+        space.give_back(pos);
+    }
+}
+
+fn free_now(space: &mut Space) -> Totals {
+    space.retire_all();
+    space.release_all();
+    space.totals()
+}
+
+/// The totals of a file of 25,600 bytes, of which so many are used.
+fn totals(used: u32, imbed: u32, free: u32, total: u32, largest: u32, number: u32) -> Totals {
+    Totals {
+        size: 25_600,
+        used,
+        free,
+        free_total: total,
+        free_largest: largest,
+        free_number: number,
+        free_imbed: imbed,
+    }
+}
+
+#[test]
+fn four_hundred_spaces_come_and_go(rt: HostRuntime) -> Result<(), Fail> {
+    let mut space = Space::from_used(rt.alloc(), &[], 0, 1_000_000, 0)?;
+    for number in 0..400 {
+        assert_eq!(rt; put_used(&mut space, number)?, Some(number * 64));
+    }
+    assert_eq!(rt; space.totals(), totals(25_600, 0, 0, 0, 0, 0));
+    for number in 0..200 {
+        leave_used(&mut space, number * 128);
+    }
+    assert_eq!(rt; free_now(&mut space), totals(12_800, 0, 0, 12_800, 64, 200));
+    for number in 0..200 {
+        let pos = number / 2 * 128 + number % 2 * 32;
+        assert_eq!(rt; placed(&mut space, 32)?, Ok(pos));
+    }
+    assert_eq!(rt;
+        space.totals(),
+        totals(12_800, 6_400, 12_800, 6_400, 64, 100)
+    );
+    assert_eq!(rt; space.pieces().len(), 500);
+    for number in 0..100 {
+        give_back_reserved(&mut space, number * 128 + 32);
+    }
+    assert_eq!(rt; space.totals(), totals(12_800, 3_200, 32, 9_600, 64, 200));
+    for number in 0..100 {
+        give_back_reserved(&mut space, number * 128);
+    }
+    assert_eq!(rt; space.totals(), totals(12_800, 0, 0, 12_800, 64, 200));
+    for number in 0..200 {
+        leave_used(&mut space, number * 128 + 64);
+    }
+    assert_eq!(rt; free_now(&mut space), totals(0, 0, 0, 25_600, 25_600, 1));
+    assert_eq!(rt; space.pieces().len(), 1);
+    assert_eq!(rt; space.trim(), 0);
+    Ok(())
+}
+
 #[test]
 fn calls_in_any_order_answer_as_the_plain_program_does(rt: HostRuntime) -> Result<(), Fail> {
     for number in 0..4 {

@@ -2,9 +2,7 @@
 ghost use Rattle.std.specs.Prelude.{◌≡◌, ◌+◌, ◌<◌, ◌^◌};
 ghost use Rattle.std.specs.Option.{option_map, unwrap_or};
 ghost use Rattle.cckd_space.specs.Pieces.{largest, greatest, offer, summed, counted, used_len, roomy_len, is_roomy, first};
-ghost use Rattle.cckd_space.specs.Inside.{IsInOrder};
 
-use crate::finding::roomy_index;
 use crate::piece::Piece;
 
 /// The greatest number of bytes that a free piece offers.
@@ -57,13 +55,12 @@ pub(crate) fn add_up(pieces: &[Piece]) -> Sums
     }
 }
 
-/// Where the first free piece of at least 8 bytes stands, or 0.
-pub(crate) fn roomy_first(pieces: &[Piece]) -> u32
-    requires { IsInOrder pieces.now }
-    ensures { result ≡ unwrap_or (option_map (λ p. p.pos) (first is_roomy pieces.now)) 0 }
+/// Where a piece begins, or 0 where there is none.
+pub(crate) fn start_or_zero(piece: Option<Piece>) -> u32
+    ensures { result ≡ unwrap_or (option_map (λ p. p.pos) piece) 0 }
 {
-    let Some(at) = roomy_index(pieces, 0) else {
-        return 0;
-    };
-    pieces[at].pos
+    match piece {
+        Some(piece) => piece.pos,
+        None => 0,
+    }
 }

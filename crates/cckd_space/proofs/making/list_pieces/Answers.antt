@@ -3,7 +3,8 @@ use Rattle.std.proofs.lemmas.List.{drop_more}
 use Rattle.cckd_base.specs.declared.space.Owner.TheVariants.{Nobody}
 use Rattle.cckd_base.specs.declared.space.Extent.{Extent}
 use Rattle.cckd_base.specs.Survey.{StandApart}
-use Rattle.cckd_space.proofs.LaidLemmas.{used_le}
+use Rattle.cckd_space.specs.Pieces.{pieces_of}
+use Rattle.cckd_space.proofs.LaidLemmas.{laid_long, laid_pieces_of, used_le}
 use Rattle.cckd_space.proofs.making.list_pieces.Goals as goal
 
 pub overflow_add-at : goal.overflow_add-at
@@ -15,3 +16,13 @@ overflow_add-at c =
     subst (λ (es : List Extent). StandApart c.loop-extent.at es c.args.size) (drop_more c.args.extents.now c.loop-extent.extent-index blank c.loop-extent-test.true) c.loop-extent.invariant.used in
     let r = used_le (this.pos + this.size) rest c.args.size h.3 in
     omega (arith, r)
+
+pub overflow_add-slots : goal.overflow_add-slots
+overflow_add-slots c =
+    let n = laid_long 0 (pieces_of 0 c.args.extents.now c.args.size) c.args.size (laid_pieces_of 0 c.args.extents.now c.args.size c.requires.used) in
+    omega (arith, n, c.count_pieces.ensures)
+
+pub new-requires-clause-slots : goal.new-requires-clause-slots
+new-requires-clause-slots c =
+    let n = laid_long 0 (pieces_of 0 c.args.extents.now c.args.size) c.args.size (laid_pieces_of 0 c.args.extents.now c.args.size c.requires.used) in
+    omega (arith, n, c.count_pieces.ensures)

@@ -1,19 +1,20 @@
-use Rattle.std.proofs.Common.{sym, ◌∙◌, ap, subst}
-use Rattle.cckd_space.specs.Inside.{IsInOrder}
+use Rattle.std.proofs.Common.{sym, ◌∙◌, ap}
+use Rattle.std.specs.Option.{option_map}
+use Rattle.cckd_space.specs.declared.piece.Piece.{Piece}
+use Rattle.cckd_space.specs.Pieces.{first, is_roomy_from}
 use Rattle.cckd_space.specs.Plan.{Plan}
-use Rattle.cckd_space.proofs.NumberLemmas.{found_free, no_free}
-use Rattle.cckd_space.proofs.SearchLemmas.{laid_order}
+use Rattle.cckd_space.proofs.OrderLemmas.{laid_in_order}
 use Rattle.cckd_space.proofs.space.Space.next_free.Goals as goal
 
-pub roomy_index-requires : goal.roomy_index-requires
-roomy_index-requires c = subst IsInOrder (sym c.as_slice.ensures.value) (laid_order c.self.inside.pieces.items c.self.inside.size c.self.invariant.laid)
+pub roomy_from-requires : goal.roomy_from-requires
+roomy_from-requires c = laid_in_order 0 c.self.inside.pieces.pieces c.self.inside.size c.self.invariant.laid
 
 pub returns-in_default : goal.returns-in_default
 returns-in_default c =
-    no_free c.args.from c.args.self.now.pieces c.as_slice.result.now (sym c.roomy_index.ensures ∙ c.in_default.is) (c.as_slice.ensures.value ∙ ap (λ (plan : Plan). plan.pieces) c.self.view_is)
+    let e = ap (λ (plan : Plan). first (is_roomy_from c.args.from) plan.pieces) (sym c.self.view_is) ∙ (sym c.roomy_from.ensures ∙ c.in_default.is) in
+    sym (ap (option_map (λ (p : Piece). (p.pos, p.size))) e)
 
 pub returns : goal.returns
 returns c =
-    let same = ap (λ (plan : Plan). plan.pieces) c.self.view_is in
-    found_free c.args.from c.args.self.now.pieces c.as_slice.result.now c.in-Some.at c.index-piece.result.now
-    (sym c.roomy_index.ensures ∙ c.in-Some.is) (c.as_slice.ensures.value ∙ same) (rw same at c.index-piece.ensures)
+    let e = ap (λ (plan : Plan). first (is_roomy_from c.args.from) plan.pieces) (sym c.self.view_is) ∙ (sym c.roomy_from.ensures ∙ c.in-Some.is) in
+    sym (ap (option_map (λ (p : Piece). (p.pos, p.size))) e)

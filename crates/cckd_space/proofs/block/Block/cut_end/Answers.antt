@@ -1,0 +1,18 @@
+use Rattle.std.proofs.Common.{◌∙◌, ◌≡◌, true, false, List, sym, ap, subst, arith}
+use Rattle.cckd_space.specs.declared.piece.Piece.{Piece}
+use Rattle.cckd_space.specs.Pieces.{largest}
+use Rattle.cckd_space.specs.Blocks.{AreMarked}
+use Rattle.cckd_space.proofs.BlockMarkLemmas.{block_cut}
+use Rattle.cckd_space.proofs.block.Block.cut_end.Goals as goal
+
+pub invariant_of-self : goal.invariant_of-self
+invariant_of-self c =
+    let old = c.self.inside.pieces.items in
+    record {
+      few = omega (arith, c.self.invariant.few, c.cut_end.ensures.len);
+      room = omega (arith, c.self.invariant.room, c.cut_end.ensures.capacity);
+      offers = omega (arith, c.largest_offer-self-inside.ensures, ap largest c.as_slice.ensures.value);
+      marked = subst (λ (l : List Piece). AreMarked l c.self.inside.leaving c.self.inside.pending) (sym c.cut_end.ensures.items) (block_cut c.args.len c.args.size old c.self.inside.leaving c.self.inside.pending c.self.invariant.marked);
+      end = λ e. sym c.ends_open-self-inside.ensures ∙ e;
+      start = λ e. sym c.starts_open-self-inside.ensures ∙ e;
+    }
