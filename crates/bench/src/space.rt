@@ -5,8 +5,8 @@ ghost use Rattle.cckd_space.specs.Plan.{IsNeed};
 use crate::sequence::next_number;
 use cckd_space::{Owner, Space};
 use std::alloc::Global;
-use std::time::Instant;
 use std::io;
+use std::time::Instant;
 
 /// The bytes of a track, and of the gap behind it.
 const TRACK: u32 = 64;
