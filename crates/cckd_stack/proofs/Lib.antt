@@ -1,3 +1,5 @@
 pub mod HistoryLemmas
 pub mod Rows
 pub mod TopLemmas
+pub mod LayerListLemmas
+pub mod DownLemmas

@@ -7,3 +7,4 @@ pub mod Stops
 pub mod Opened
 pub mod Moments
 pub mod Tops
+pub mod Stacked

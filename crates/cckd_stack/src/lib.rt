@@ -1,4 +1,8 @@
 //! The layered disk: a base image, the shadow files on it, and what calls and stops make of them.
 #![tactic(auto)]
 
+mod reading;
+mod stack;
+
 pub use cckd_base::{Call, Geometry, Refusal, Reply, Turn};
+pub use stack::Stack;
