@@ -1,7 +1,7 @@
 -- The layers of a stack, one by one, and what stays where only their cached tables change.
-use Rattle.std.proofs.Common.{◌≡◌, ℕ, zero, suc, ◌+◌, ◌<◌, ◌≤◌, Bool, true, false, List, [], ◌∷◌, length, map, get_or, set, refl, sym, ◌∙◌, ap, subst, arith}
+use Rattle.std.proofs.Common.{◌≡◌, ℕ, zero, suc, ◌+◌, ◌<◌, List, [], ◌∷◌, ◌++◌, length, take, drop, map, get_or, set, refl, sym, ◌∙◌, ap, subst, arith}
 use Rattle.std.specs.List.{AllByRecursion}
-use Rattle.std.proofs.Math.Seq.{map-set_same}
+use Rattle.std.proofs.Math.Seq.{map-set_same, take-append_seam}
 use Rattle.std.proofs.lemmas.List.{get_or-map}
 use Rattle.cckd_base.specs.declared.geometry.Geometry.{Geometry}
 use Rattle.cckd_shelf.specs.Seen.{Seen, Tells, Stays}
@@ -117,3 +117,13 @@ caches_stack s new e is =
       layers = caches_layers s.geometry 0 s.layers new e is.layers;
       whole = λ sound. caches_whole s.layers new e (is.whole sound);
     }
+
+-- the layers, written back from a slice
+pub written_back : (xs ys : List LayerState) (n : ℕ) → n ≡ length xs → take n (xs ++ drop (length xs) ys) ≡ xs
+written_back xs ys n e = ap (λ (k : ℕ). take k (xs ++ drop (length xs) ys)) e ∙ take-append_seam xs (drop (length xs) ys)
+
+pub written_stack : (s : StackState) (was new ys : List LayerState) (n : ℕ) → was ≡ s.layers → n ≡ length was → OnlyCaches was new → IsStack s
+    → IsStack (with_layers s (take n (new ++ drop (length new) ys)))
+written_stack s was new ys n same long e is =
+    let caches : OnlyCaches s.layers new = subst (λ (ls : List LayerState). OnlyCaches ls new) same e in
+    subst (λ (ls : List LayerState). IsStack (with_layers s ls)) (sym (written_back new ys n (long ∙ sym (caches_length was new e)))) (caches_stack s new caches is)

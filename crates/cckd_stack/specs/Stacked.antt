@@ -1,5 +1,5 @@
 -- What callers see of a `Stack`, the stack of layers that it stands for, and what a read of it answers.
-use Rattle.std.specs.Prelude.{ℕ, zero, suc, ◌≡◌, ◌+◌, ◌-◌, ◌<◌, ◌≤◌, nat_lt, Bool, false, if◌then◌else◌, List, [], ◌∷◌, ◌++◌, length, map, take, drop, slice_index_or, Option, Some, None, Result, Ok, Err}
+use Rattle.std.specs.Prelude.{ℕ, zero, suc, ◌≡◌, ◌-◌, ◌≤◌, nat_lt, Bool, false, if◌then◌else◌, List, [], ◌∷◌, ◌++◌, length, map, take, drop, slice_index_or, Option, Some, None, Result, Ok, Err}
 use Rattle.std.specs.List.{AllByRecursion}
 use Rattle.cckd_shelf.specs.declared.fault.Faults.{Faults}
 use Rattle.cckd_shelf.specs.declared.fault.Kind.{Kind}
@@ -16,7 +16,6 @@ use Rattle.cckd_base.specs.declared.layer_fault.StackFault.TheVariants as stack_
 use Rattle.cckd_base.specs.Geometry.{track_count, IsGeometry}
 use Rattle.cckd_layer.specs.Held.{NullBytes, held}
 use Rattle.cckd_layer.specs.Mounted.{LayerState, CanRead, with_tables}
-use Rattle.cckd_layer.specs.Reads.{IsReadRefusal, IsReadFault}
 use Rattle.cckd_tables.specs.Looking.{with_cached}
 use Rattle.cckd_stack.specs.Layers.{Layer, Stack, base, shadow, empty_layer}
 

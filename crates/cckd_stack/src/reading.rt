@@ -2,7 +2,7 @@
 ghost use Rattle.std.specs.Prelude.{◌≡◌, ◌+◌, ◌*◌, ◌≤◌, ◌<◌, length, [], false, IfOk, OnOk, IfErr, None};
 ghost use Rattle.cckd_shelf.specs.Seen.{seen, Stays};
 ghost use Rattle.cckd_base.specs.Geometry.{track_count, IsGeometry};
-ghost use Rattle.cckd_layer.specs.Reads.{CheckRefuses, IsReadRefusal, IsReadFault, OnlyReads as OnlyLayerReads};
+ghost use Rattle.cckd_layer.specs.Reads.{CheckRefuses, IsReadRefusal, IsReadFault};
 ghost use Rattle.cckd_stack.specs.Layers.{visible};
 ghost use Rattle.cckd_stack.specs.Stacked.{stack_of, AreLayersFrom, AreWhole, OfFiles, CanReadAll, OnlyCaches, IsPut, Passes, InLayer, OnlyReads, with_layers};
 
@@ -30,7 +30,7 @@ fn read_down<U: Unit, T: Stage>(
     geo: &Geometry,
     t: Track,
     out: &mut [u8],
-) -> Result<u16, LayerFault>
+) -> Result<u16, StackFault>
     requires geometry { IsGeometry geo.now }
     requires track { t.0 < track_count geo.now }
     requires room { 65536 ≤ length out.old }
@@ -41,13 +41,13 @@ fn read_down<U: Unit, T: Stage>(
         (U.value (visible (stack_of U.null_bytes layers.old files) t.0)) len out.old out.new)) (seen T.Shows stage.old) }
     ensures checked { OfFiles (λ files. OnOk result
         (U.fault geo.now t.0 (visible (stack_of U.null_bytes layers.old files) t.0) ≡ None)) (seen T.Shows stage.old) }
-    ensures refusal { OfFiles (λ files. IfErr result (IsReadRefusal
-        (U.fault geo.now t.0 (visible (stack_of U.null_bytes layers.old files) t.0)))) (seen T.Shows stage.old) }
+    ensures refusal { OfFiles (λ files. IfErr result (InLayer (IsReadRefusal
+        (U.fault geo.now t.0 (visible (stack_of U.null_bytes layers.old files) t.0))))) (seen T.Shows stage.old) }
     ensures accepted { IfOk result (Passes (U.fault geo.now t.0) out.new) }
-    ensures kind { IfErr result IsReadFault }
+    ensures kind { IfErr result (InLayer IsReadFault) }
     ensures cached { OnlyCaches layers.old layers.new }
     ensures can_read { CanReadAll layers.new (seen T.Shows stage.new) }
-    ensures reads { OnlyLayerReads result (seen T.Shows stage.old) (seen T.Shows stage.new) }
+    ensures reads { OnlyReads result (seen T.Shows stage.old) (seen T.Shows stage.new) }
     ensures called { (seen T.Shows stage.new).calls ≤ (seen T.Shows stage.old).calls + 2 * length layers.old }
 {
     let count = layers.len();
@@ -55,14 +55,14 @@ fn read_down<U: Unit, T: Stage>(
         let layer = &mut layers[count - 1 - done];
         let answer = match layer.read(stage, t, out) {
             Ok(answer) => answer,
-            Err(fault) => return Err(fault),
+            Err(fault) => return Err(StackFault::Layer(fault)),
         };
         match answer {
             Held::Here { len } => return Ok(len),
             Held::Below => {}
         }
     }
-    Err(fault_of_nothing::<U>(geo, t, out))
+    Err(StackFault::Layer(fault_of_nothing::<U>(geo, t, out)))
 }
 
 impl<U: Unit> Stack<U> {
@@ -99,9 +99,6 @@ impl<U: Unit> Stack<U> {
         ensures called { (seen T.Shows stage.new).calls ≤ (seen T.Shows stage.old).calls + 2 * length self.old.layers }
     {
         let geo = self.geometry;
-        match read_down(self.layers.as_mut_slice(), stage, &geo, t, out) {
-            Ok(len) => Ok(len),
-            Err(fault) => Err(StackFault::Layer(fault)),
-        }
+        read_down(self.layers.as_mut_slice(), stage, &geo, t, out)
     }
 }

@@ -1,7 +1,8 @@
-use Rattle.std.proofs.Common.{◌+◌, ◌-◌, ℕ, length, get_or, ap, arith}
+use Rattle.std.proofs.Common.{◌+◌, ◌-◌, length, get_or, ap, arith}
 use Rattle.cckd_shelf.specs.Seen.{seen}
+use Rattle.cckd_layer.specs.declared.held.Held.{Held}
 use Rattle.cckd_layer.specs.Mounted.{LayerState}
-use Rattle.cckd_stack.proofs.DownLemmas.{own_whole, own_device, none_asked, one_asked, asked_cached, asked_reads, asked_kept, found_put, found_checked, found_passes, found_refused, nothing_refused, nothing_reads, read_counts}
+use Rattle.cckd_stack.proofs.DownLemmas.{own_whole, own_device, one_asked, asked_cached, asked_reads, found_put, found_checked, found_passes, found_refused, nothing_refused, nothing_reads, refused_reads}
 use Rattle.cckd_stack.proofs.reading.read_down.Goals as goal
 
 pub read-requires-clause-whole : goal.read-requires-clause-whole
@@ -45,6 +46,11 @@ returns-in-Err-clause-can_read g c =
     (ap (λ (d : LayerState). get_or c.loop-done.layers (length c.args.layers.now - 1 - c.loop-done.done) d) c.index-layers-count.is)
     (omega (arith, c.loop-done-test.true)) c.args.geo.now c.requires.layers c.requires.track
     c.read.new.self (seen g.T.Shows c.read.new.stage) c.read.new.out (λ told. told) c.in-Err.ensures.rest c.in-Err.ensures.tables.looks.rest c.in-Err.ensures.can_read c.in-Err.ensures.reads.kept
+
+pub returns-in-Err-clause-reads : goal.returns-in-Err-clause-reads
+returns-in-Err-clause-reads g c =
+    refused_reads Held c.in-Err.fault (seen g.T.Shows c.args.stage.now) (seen g.T.Shows c.loop-done.stage) (seen g.T.Shows c.read.new.stage) (λ told. told)
+    c.loop-done.invariant.kept c.loop-done.invariant.counts c.in-Err.ensures.kind c.in-Err.ensures.reads.kept c.in-Err.ensures.reads.counts
 
 pub returns-in-Here-clause-answer : goal.returns-in-Here-clause-answer
 returns-in-Here-clause-answer g c =
@@ -109,4 +115,3 @@ returns-clause-reads g c =
     nothing_reads g.U.Unit.null_bytes c.args.t.0 c.args.layers.now c.loop-done.layers (seen g.T.Shows c.args.stage.now) (seen g.T.Shows c.loop-done.stage)
     c.args.out.now c.loop-done.out (length c.args.layers.now - c.loop-done.done) c.loop-done.invariant (omega (arith, c.loop-done-test.false))
     (g.U.Unit.fault c.args.geo.now c.args.t.0) c.fault_of_nothing.result c.fault_of_nothing.ensures
-
