@@ -2,6 +2,10 @@ pub mod Held
 pub mod Sits
 pub mod Current
 pub mod Changes
+pub mod Puts
+pub mod Acts
+pub mod Marks
+pub mod Chain
 pub mod Stands
 pub mod Closed
 pub mod Reads

@@ -1,11 +1,14 @@
 pub mod Blend
 pub mod Cached
+pub mod Cells
 pub mod Commit
 pub mod Device
 pub mod Inside
 pub mod Kept
 pub mod Looking
+pub mod Making
 pub mod Scan
+pub mod Settling
 pub mod Stages
 pub mod Staging
 pub mod Tables

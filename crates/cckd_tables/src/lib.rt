@@ -2,20 +2,27 @@
 #![tactic(auto)]
 
 mod cache;
+mod cell;
+mod commit;
 mod device;
+mod entries;
 mod item;
 mod kept;
+mod making;
 mod progress;
 mod read;
+mod settling;
 mod staged;
 mod stages;
 mod surveyed;
+mod table;
 mod tables;
 #[cfg(test)]
 mod tests;
 mod words;
 
 pub use cckd_base::{Extent, Layout, Misfit, Owner, ScanFault};
+pub use commit::Commit;
 pub use device::Device;
 pub use staged::{StagedEntry, StagedWord};
 pub use surveyed::{SurveyFault, Surveyed, scan, survey};

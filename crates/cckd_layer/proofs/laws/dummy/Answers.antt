@@ -1,7 +1,0 @@
-use Rattle.std.proofs.Common.{refl}
-use Rattle.cckd_layer.proofs.SpanLemmas.{held_left}
-use Rattle.cckd_layer.proofs.FillLemmas.{write_fills}
-use Rattle.cckd_layer.proofs.laws.dummy.Goals as goal
-
-pub returns : goal.returns
-returns c = refl
