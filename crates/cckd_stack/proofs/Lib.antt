@@ -3,3 +3,4 @@ pub mod Rows
 pub mod TopLemmas
 pub mod LayerListLemmas
 pub mod DownLemmas
+pub mod RowLemmas

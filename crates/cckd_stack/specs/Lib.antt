@@ -8,3 +8,4 @@ pub mod Opened
 pub mod Moments
 pub mod Tops
 pub mod Stacked
+pub mod Mounting
