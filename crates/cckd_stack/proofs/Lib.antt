@@ -4,3 +4,4 @@ pub mod TopLemmas
 pub mod LayerListLemmas
 pub mod DownLemmas
 pub mod RowLemmas
+pub mod MountedLemmas

@@ -1,7 +1,7 @@
 -- What the files of the slots are mounted as, or the first case by which they are refused.
 use Rattle.std.specs.Prelude.{ℕ, zero, suc, ◌≡◌, ◌≢◌, ◌⊎◌, ◌<◌, ◌≤◌, true, false, max, List, [], ◌∷◌, length, Option, Some, None, Result, Ok, Err}
 use Rattle.cckd_shelf.specs.declared.fault.Faults.{Faults}
-use Rattle.cckd_shelf.specs.Seen.{Seen, Tells, Makes}
+use Rattle.cckd_shelf.specs.Seen.{Seen, Tells, Makes, MayMake}
 use Rattle.cckd_shelf.specs.World.{World, after_sync}
 use Rattle.cckd_base.specs.declared.geometry.Geometry.{Geometry}
 use Rattle.cckd_base.specs.declared.open_fault.OpenFault.{OpenFault}
@@ -15,7 +15,8 @@ use Rattle.cckd_image.specs.Image.{identifiers_of}
 use Rattle.cckd_tables.specs.Scan.{first_misfit}
 use Rattle.cckd_layer.specs.Mounted.{LayerState, IsFresh, IsOf, kept_view}
 use Rattle.cckd_layer.specs.Stands.{Stands}
-use Rattle.cckd_stack.specs.Stacked.{StackState, OfFiles}
+use Rattle.cckd_layer.specs.Reads.{OfFile}
+use Rattle.cckd_stack.specs.Stacked.{StackState, OfFiles, AreLayersFrom, AreWhole, CanReadAll}
 
 -- ---- the slots that are there
 
@@ -79,17 +80,45 @@ IsFileCase shape slot file (open_fault.Scan at why) =
     × (header_geometry (headers_of file) ≡ shape) × (first_misfit (misfits (layout_of (headers_of file)) file) ≡ Some why)
 IsFileCase shape slot file _ = ⊥
 
+-- why a slot's file is no layer of a disk of this shape: its first case, or a call that reads or syncs failed, or memory was
+-- wanted
+abbrev pub IsSlotCause : Geometry → ℕ → Seen → OpenFault → Type 0
+IsSlotCause shape slot old (open_fault.Gap at) = ⊥
+IsSlotCause shape slot old open_fault.ReadFault = Unit {0}
+IsSlotCause shape slot old open_fault.WriteFault = ⊥
+IsSlotCause shape slot old open_fault.SyncFault = Unit {0}
+IsSlotCause shape slot old open_fault.Memory = Unit {0}
+IsSlotCause shape slot old why = OfFile slot (λ file. IsFileCase shape slot file why) old
+
+-- the slot was synced, or, where there is no layer, maybe not, and nothing else was done
+abbrev pub SyncsOne : ℕ → Result LayerState OpenFault → Seen → Seen → Type 0
+SyncsOne slot (Ok s) old new = Makes (after_sync slot) old new
+SyncsOne slot (Err why) old new = MayMake (after_sync slot) old new
+
 -- ---- all files
 
+-- the first case of so many slots: that of one of them, where no slot below it has one
+pub record IsFirstCase (shape : Geometry) (files : ℕ → List ℕ) (count : ℕ) (why : OpenFault) : Type 0 where
+  pub slot : ℕ
+  pub low : slot < count
+  pub sound : (k : ℕ) → k < slot → IsImageIn shape k (files k)
+  pub case : IsFileCase shape slot (files slot) why
+
+-- why so many slots have no layers of this shape: the same, or a call that reads or syncs failed, or memory was wanted
+abbrev pub IsLayersCause : Geometry → ℕ → Seen → OpenFault → Type 0
+IsLayersCause shape count old (open_fault.Gap at) = ⊥
+IsLayersCause shape count old open_fault.ReadFault = Unit {0}
+IsLayersCause shape count old open_fault.WriteFault = ⊥
+IsLayersCause shape count old open_fault.SyncFault = Unit {0}
+IsLayersCause shape count old open_fault.Memory = Unit {0}
+IsLayersCause shape count old why = OfFiles (λ files. IsFirstCase shape files count why) old
+
 -- The first case by which the files are refused, where no slot is there above one that isn't: that of a slot that is there, or
--- of the base where it isn't, when no slot below it has one.
+-- of the base where it isn't.
 pub record IsRefused (files : ℕ → List ℕ) (why : OpenFault) : Type 0 where
   pub count : ℕ
   pub row : HasRow files count
-  pub slot : ℕ
-  pub low : slot < max 1 count
-  pub sound : (k : ℕ) → k < slot → IsImageIn (shape_of files) k (files k)
-  pub case : IsFileCase (shape_of files) slot (files slot) why
+  pub first : IsFirstCase (shape_of files) files (max 1 count) why
 
 -- why there is no stack: the first case of the files, or a call that reads or syncs failed, or memory was wanted
 abbrev pub IsMountCause : Seen → OpenFault → Type 0
@@ -129,13 +158,23 @@ abbrev pub after_syncs : ℕ → World → World
 after_syncs zero w = w
 after_syncs (suc n) w = after_sync n (after_syncs n w)
 
+-- the layers of the slots from the base on were mounted, as those of devices of this shape, and nothing was done but their syncs
+pub record HasMounted (limit : ℕ) (shape : Geometry) (old new : Seen) (layers : List LayerState) : Type 0 where
+  pub fresh : AreFreshFrom limit 0 layers
+  pub shapes : AreLayersFrom shape 0 layers
+  pub whole : AreWhole layers
+  pub are : OfFiles (λ files. AreOfFrom files 0 layers) old
+  pub stand : OfFiles (λ files. StandFrom files new.world 0 layers) old
+  pub can_read : CanReadAll layers new
+  pub synced : Makes (after_syncs (length layers)) old new
+  pub counts : new.faults ≡ old.faults
+
 -- nothing else was done
 pub record OnlySyncsSome (old new : World) : Type 0 where
   pub count : ℕ
   pub few : count ≤ 9
   pub done : new ≡ after_syncs count old
 
--- the slots of the layers were synced, and nothing else was done; or, where there are no layers, only some were
-abbrev pub SyncsAll : Result StackState OpenFault → Seen → Seen → Type 0
-SyncsAll (Ok s) old new = Makes (after_syncs (length s.layers)) old new
-SyncsAll (Err why) old new = Tells old → OnlySyncsSome old.world new.world
+-- the same as far as it is told
+abbrev pub SyncsSome : Seen → Seen → Type 0
+SyncsSome old new = Tells old → OnlySyncsSome old.world new.world
