@@ -5,3 +5,4 @@ pub mod LayerListLemmas
 pub mod DownLemmas
 pub mod RowLemmas
 pub mod MountedLemmas
+pub mod FirstLemmas

@@ -1,23 +1,23 @@
 -- Layers mounted one after another.
-use Rattle.std.proofs.Common.{◌≡◌, ◌≢◌, ◌⊎◌, ℕ, zero, suc, ◌+◌, ◌<◌, ◌≤◌, Bool, true, false, List, [], ◌∷◌, ◌++◌, length, get_or, Option, Some, None, Result, Ok, Err, inl, inr, refl, sym, ◌∙◌, ap, subst, arith}
+use Rattle.std.proofs.Common.{◌≡◌, ◌⊎◌, ℕ, zero, suc, ◌+◌, ◌<◌, ◌≤◌, false, List, [], ◌∷◌, ◌++◌, length, Err, inl, inr, refl, sym, ◌∙◌, ap, subst, arith}
 use Rattle.std.specs.List.{AllByRecursion}
 use Rattle.std.proofs.lemmas.List.{length-append}
 use Rattle.cckd_shelf.specs.declared.fault.Faults.{Faults}
-use Rattle.cckd_shelf.specs.Seen.{Seen, Tells, Stays, Makes, MayMake}
+use Rattle.cckd_shelf.specs.Seen.{Seen, Tells, Makes, MayMake}
 use Rattle.cckd_shelf.specs.World.{World, IsSure, file_of, after_sync}
 use Rattle.cckd_shelf.proofs.OutcomeLemmas.{sync_step}
 use Rattle.cckd_base.specs.declared.geometry.Geometry.{Geometry}
 use Rattle.cckd_base.specs.declared.geometry.Layout.{Layout}
 use Rattle.cckd_base.specs.declared.open_fault.OpenFault.{OpenFault}
 use Rattle.cckd_base.specs.declared.open_fault.OpenFault.TheVariants as open_fault
-use Rattle.cckd_base.specs.Header.{headers_of, header_geometry, layout_of, is_present}
+use Rattle.cckd_base.specs.Header.{headers_of, layout_of}
 use Rattle.cckd_base.specs.Image.{IsSnug, IsSound}
 use Rattle.cckd_layer.specs.Mounted.{LayerState, ReadsFrom, CanRead, IsFresh, IsOf, CountsOpen, kept_view}
 use Rattle.cckd_layer.specs.Stands.{LayerView, Stands}
 use Rattle.cckd_layer.specs.Sits.{IsMarked, Sits}
 use Rattle.cckd_layer.specs.Reads.{OfFile}
-use Rattle.cckd_stack.specs.Stacked.{StackState, IsStack, OfFiles, IsLayerIn, AreLayersFrom, AreWhole, CanReadAll}
-use Rattle.cckd_stack.specs.Mounting.{HasRow, IsRow, IsGap, IsRowCause, roles_in, identifiers_in, shape_of, IsImageIn, IsFileCase, IsSlotCause, IsLayersCause, IsFirstCase, IsRefused, IsMountCause, AreFreshFrom, AreOfFrom, StandFrom, HasMounted, SyncsOne, after_syncs, OnlySyncsSome, SyncsSome}
+use Rattle.cckd_stack.specs.Stacked.{OfFiles, IsLayerIn, AreLayersFrom}
+use Rattle.cckd_stack.specs.Mounting.{roles_in, identifiers_in, IsImageIn, IsFileCase, IsSlotCause, IsLayersCause, IsFirstCase, AreFreshFrom, AreOfFrom, StandFrom, HasMounted, after_syncs, OnlySyncsSome, SyncsSome}
 use Rattle.cckd_stack.proofs.LayerListLemmas.{all_between}
 
 -- ---- syncs

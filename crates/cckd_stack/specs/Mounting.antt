@@ -1,6 +1,5 @@
 -- What the files of the slots are mounted as, or the first case by which they are refused.
-use Rattle.std.specs.Prelude.{ℕ, zero, suc, ◌≡◌, ◌≢◌, ◌⊎◌, ◌<◌, ◌≤◌, true, false, max, List, [], ◌∷◌, length, Option, Some, None, Result, Ok, Err}
-use Rattle.cckd_shelf.specs.declared.fault.Faults.{Faults}
+use Rattle.std.specs.Prelude.{ℕ, zero, suc, ◌≡◌, ◌≢◌, ◌<◌, ◌≤◌, true, false, max, List, [], ◌∷◌, length, Some, None, Result, Ok, Err}
 use Rattle.cckd_shelf.specs.Seen.{Seen, Tells, Makes, MayMake}
 use Rattle.cckd_shelf.specs.World.{World, after_sync}
 use Rattle.cckd_base.specs.declared.geometry.Geometry.{Geometry}

@@ -1,15 +1,18 @@
 //! The mounting of a stack: from the files of the slots to its layers.
-ghost use Rattle.std.specs.Prelude.{◌≡◌, ◌≢◌, ◌≤◌, length, vec_capacity, IfOk, OnOk, IfErr};
-ghost use Rattle.cckd_shelf.specs.Seen.{seen};
+ghost use Rattle.std.specs.Prelude.{◌≡◌, ◌≢◌, ◌≤◌, length, vec_capacity, false, IfOk, OnOk, IfErr};
+ghost use Rattle.cckd_shelf.specs.Seen.{seen, Makes};
+ghost use Rattle.cckd_base.specs.Geometry.{IsGeometry};
 ghost use Rattle.cckd_base.specs.Header.{headers_of, header_geometry};
 ghost use Rattle.cckd_base.specs.Image.{IsSnug};
 ghost use Rattle.cckd_image.specs.Image.{identifiers_of};
 ghost use Rattle.cckd_layer.specs.Stands.{Stands};
 ghost use Rattle.cckd_layer.specs.Reads.{OfFile};
-ghost use Rattle.cckd_layer.specs.Mounted.{IsFresh, IsOf, CanRead, CountsOpen, kept_view};
-ghost use Rattle.cckd_stack.specs.Mounting.{roles_in, IsSlotCause, SyncsOne, IsLayersCause, HasMounted, SyncsSome};
+ghost use Rattle.cckd_layer.specs.Mounted.{IsFresh, IsOf, CanRead, CountsOpen, OnlyLooks, kept_view};
+ghost use Rattle.cckd_stack.specs.Mounting.{roles_in, IsSlotCause, SyncsOne, IsLayersCause, IsMountCause, IsMounted, IsRow, HasMounted, SyncsSome, AreFreshFrom, StandFrom, after_syncs, shape_of};
+ghost use Rattle.cckd_stack.specs.Stacked.{OfFiles, CanReadAll};
 
-use crate::presence::slot_of;
+use crate::presence::{row, slot_of};
+use crate::stack::Stack;
 use cckd_base::{FORMAT_LIMIT, Geometry, OpenFault};
 use cckd_image::Roles;
 use cckd_layer::{Layer, geometry_in};
@@ -132,4 +135,57 @@ fn mount_layers<U, T: Stage>(
         };
     }
     Ok(layers)
+}
+
+/// How many slots are there, and the geometry of the base.
+fn look_around<T: Stage>(stage: &mut T) -> Result<(u8, Geometry), OpenFault>
+    ensures some { IfOk result (λ found. 1 ≤ found.0) }
+    ensures few { IfOk result (λ found. found.0 ≤ 9) }
+    ensures can { IfOk result (λ found. IsGeometry found.1) }
+    ensures row { OfFiles (λ files. IfOk result (λ found. IsRow files found.0)) (seen T.Shows stage.old) }
+    ensures shape { OfFiles (λ files. IfOk result (λ found. found.1 ≡ shape_of files)) (seen T.Shows stage.old) }
+    ensures cause { IfErr result (IsMountCause (seen T.Shows stage.old)) }
+    ensures looks { OnlyLooks result (seen T.Shows stage.old) (seen T.Shows stage.new) }
+{
+    let count = match row(stage) {
+        Ok(count) => count,
+        Err(fault) => return Err(fault),
+    };
+    match geometry_in(stage, slot_of(0), Roles::Base) {
+        Ok(shape) => Ok((count.max(1), shape)),
+        Err(fault) => Err(fault),
+    }
+}
+
+impl<U> Stack<U> {
+    /// Mounts the files of the slots, which are synced: the base, and all shadows on it. Each layer may grow to `limit` bytes.
+    pub fn mount<T: Stage>(alloc: Global, stage: &mut T, limit: u32) -> Result<Stack<U>, OpenFault>
+        requires limit { limit ≤ FORMAT_LIMIT }
+        ensures fresh { IfOk result (λ s. AreFreshFrom limit 0 s.layers) }
+        ensures whole { IfOk result (λ s. s.broken ≡ false) }
+        ensures mounted { OfFiles (λ files. IfOk result (IsMounted files)) (seen T.Shows stage.old) }
+
+        // Each layer whose file is snug stands, and all can be read.
+        ensures stand { OfFiles (λ files. IfOk result (λ s. StandFrom files (seen T.Shows stage.new).world 0 s.layers)) (seen T.Shows stage.old) }
+        ensures can_read { IfOk result (λ s. CanReadAll s.layers (seen T.Shows stage.new)) }
+
+        // Why there is no stack, and what was done.
+        ensures cause { IfErr result (IsMountCause (seen T.Shows stage.old)) }
+        ensures counts { CountsOpen result (seen T.Shows stage.old).faults (seen T.Shows stage.new).faults }
+        ensures synced { IfOk result (λ s. Makes (after_syncs (length s.layers)) (seen T.Shows stage.old) (seen T.Shows stage.new)) }
+        ensures syncs { SyncsSome (seen T.Shows stage.old) (seen T.Shows stage.new) }
+    {
+        let (count, shape) = match look_around(stage) {
+            Ok(found) => found,
+            Err(fault) => return Err(fault),
+        };
+        match mount_layers(alloc, stage, &shape, count, limit) {
+            Ok(layers) => Ok(Stack {
+                geometry: shape,
+                layers,
+                broken: false,
+            }),
+            Err(fault) => Err(fault),
+        }
+    }
 }
