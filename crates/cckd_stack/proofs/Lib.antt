@@ -6,3 +6,5 @@ pub mod DownLemmas
 pub mod RowLemmas
 pub mod MountedLemmas
 pub mod FirstLemmas
+pub mod BridgeLemmas
+pub mod CountedLemmas

@@ -17,7 +17,8 @@ use Rattle.cckd_base.specs.Geometry.{track_count, IsGeometry}
 use Rattle.cckd_layer.specs.Held.{NullBytes, held}
 use Rattle.cckd_layer.specs.Mounted.{LayerState, CanRead, with_tables}
 use Rattle.cckd_tables.specs.Looking.{with_cached}
-use Rattle.cckd_stack.specs.Layers.{Layer, Stack, base, shadow, empty_layer}
+use Rattle.cckd_stack.specs.Layers.{Layer, Stack, base, shadow, empty_layer, layer_count}
+use Rattle.cckd_stack.specs.Answers.{counts_shown}
 
 -- The geometry of all layers, the layers, the base first, and whether a write or a sync failed, so that nothing may be called
 -- any more.
@@ -138,3 +139,8 @@ CountsFault (Err why) old new = CountsKind (kind_told why) old new
 pub record OnlyReads {A : Type 0} (result : Result A StackFault) (old new : Seen) : Type 0 where
   pub kept : Stays old new
   pub counts : CountsFault result old.faults new.faults
+
+-- how many layers there are, and how many tracks each has
+pub record Shows (g : Geometry) (s : Stack) (shown : ℕ × List ℕ) : Type 0 where
+  pub layers : shown.0 ≡ layer_count s
+  pub counts : shown.1 ≡ counts_shown g s
