@@ -25,12 +25,12 @@ use Rattle.cckd_stack.proofs.BridgeLemmas.{count_to}
 
 -- ---- one layer
 
-range_last : (a n : ℕ) → range_with_len a (suc n) ≡ range_with_len a n ++ (a + n) ∷ []
+pub range_last : (a n : ℕ) → range_with_len a (suc n) ≡ range_with_len a n ++ (a + n) ∷ []
 range_last a zero = ap (λ (k : ℕ). k ∷ []) (omega arith)
 range_last a (suc n) =
     ap (λ (ks : List ℕ). a ∷ ks) (range_last (a + 1) n ∙ ap (λ (k : ℕ). range_with_len (a + 1) n ++ k ∷ []) (omega arith))
 
-one_filtered : (p : ℕ → Bool) (t : ℕ) (b : Bool) → p t ≡ b → length (filter p (t ∷ [])) ≡ (if b then 1 else 0)
+pub one_filtered : (p : ℕ → Bool) (t : ℕ) (b : Bool) → p t ≡ b → length (filter p (t ∷ [])) ≡ (if b then 1 else 0)
 one_filtered p t true e = rw e
 one_filtered p t false e = rw e
 

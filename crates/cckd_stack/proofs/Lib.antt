@@ -8,3 +8,4 @@ pub mod MountedLemmas
 pub mod FirstLemmas
 pub mod BridgeLemmas
 pub mod CountedLemmas
+pub mod CheckLemmas

@@ -144,3 +144,8 @@ pub record OnlyReads {A : Type 0} (result : Result A StackFault) (old new : Seen
 pub record Shows (g : Geometry) (s : Stack) (shown : ℕ × List ℕ) : Type 0 where
   pub layers : shown.0 ≡ layer_count s
   pub counts : shown.1 ≡ counts_shown g s
+
+-- the fault that a check of a track answered
+abbrev pub told_fault : Result (Unit {0}) TrackFault → Option TrackFault
+told_fault (Ok _) = None
+told_fault (Err why) = Some why

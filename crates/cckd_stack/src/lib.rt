@@ -1,6 +1,7 @@
 //! The layered disk: a base image, the shadow files on it, and what calls and stops make of them.
 #![tactic(auto)]
 
+mod checking;
 mod laws;
 mod mounting;
 mod presence;
