@@ -26,3 +26,4 @@ pub mod RoleLemmas
 pub mod FoundLemmas
 pub mod OpenLemmas
 pub mod CountLemmas
+pub mod GlanceLemmas

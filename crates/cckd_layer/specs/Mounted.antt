@@ -5,13 +5,14 @@ use Rattle.cckd_shelf.specs.declared.fault.Kind.TheVariants.{Reads, Syncs}
 use Rattle.cckd_shelf.specs.Faults.{Raises}
 use Rattle.cckd_shelf.specs.World.{after_sync}
 use Rattle.cckd_shelf.specs.Seen.{Seen, Stays, Makes}
+use Rattle.cckd_base.specs.declared.geometry.Geometry.{Geometry}
 use Rattle.cckd_base.specs.declared.geometry.Layout.{Layout}
 use Rattle.cckd_base.specs.declared.fault.HeaderFault.{HeaderFault}
 use Rattle.cckd_base.specs.declared.open_fault.OpenFault.{OpenFault}
 use Rattle.cckd_base.specs.declared.open_fault.OpenFault.TheVariants as open_fault
 use Rattle.cckd_base.specs.declared.space.Extent.{Extent}
 use Rattle.cckd_base.specs.Geometry.{track_count}
-use Rattle.cckd_base.specs.Header.{headers_of, header_fault, layout_of}
+use Rattle.cckd_base.specs.Header.{headers_of, header_fault, header_geometry, layout_of}
 use Rattle.cckd_base.specs.Misfit.{entry_misfit}
 use Rattle.cckd_base.specs.Survey.{header_space, misfits, used_spaces, HasNoMisfit}
 use Rattle.cckd_base.specs.Image.{IsHeaded, IsSound}
@@ -91,6 +92,18 @@ pub record HasHeaders (roles : Roles) (header : ImageHeader) (l : Layout) (len :
 pub record HasSpaces (l : Layout) (spaces : List Extent) (file : List ℕ) : Type 0 where
   pub clean : HasNoMisfit l file
   pub used : spaces ≡ used_spaces l file
+
+-- the headers of a file in roles have no fault, and say this geometry
+pub record SaysGeometry (roles : Roles) (geo : Geometry) (file : List ℕ) : Type 0 where
+  pub sound : header_fault (identifiers_of roles) (headers_of file) (length file) ≡ None
+  pub says : geo ≡ header_geometry (headers_of file)
+
+-- why the headers of a file say none: their first fault, or a call that reads failed
+abbrev pub IsLookCause : Roles → ℕ → Seen → OpenFault → Type 0
+IsLookCause roles slot old (open_fault.Header at why) =
+    (at ≡ slot) × OfFile slot (λ file. header_fault (identifiers_of roles) (headers_of file) (length file) ≡ Some why) old
+IsLookCause roles slot old open_fault.ReadFault = Unit {0}
+IsLookCause roles slot old _ = ⊥
 
 -- the headers of the slot's file are refused by their first fault
 abbrev pub IsHeaderRefusal : ℕ → Option HeaderFault → OpenFault → Type 0

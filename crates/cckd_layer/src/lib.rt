@@ -7,6 +7,7 @@ mod counting;
 mod held;
 mod laws;
 mod layer;
+mod looking;
 mod marking;
 mod mounting;
 mod placing;
@@ -27,6 +28,7 @@ pub use laws::{
     closes_stand, commits_stand, marks_stand, puts_stand, releases_stand, stages_stand,
 };
 pub use layer::Layer;
+pub use looking::geometry_in;
 pub use marking::{close_header, open_header, put_second, second_header};
 pub use placing::{PutFault, put_bytes};
 pub use settling::settle_staged;

@@ -12,7 +12,7 @@ ghost use Rattle.cckd_tables.specs.Scan.{AreSpaces};
 ghost use Rattle.cckd_tables.specs.Tables.{HasWords};
 ghost use Rattle.cckd_layer.specs.Stands.{Stands, nothing_staged};
 ghost use Rattle.cckd_layer.specs.Reads.{OfFile};
-ghost use Rattle.cckd_layer.specs.Mounted.{HasHeaders, HasSpaces, IsFileCause, IsHeaderRefusal, IsSurveyCause, IsLoadCause, IsOpenCause, IsFresh, IsOf, OnlyLooks, OnlySyncs, CountsOpen, CanRead, kept_view, reserve};
+ghost use Rattle.cckd_layer.specs.Mounted.{HasHeaders, HasSpaces, IsFileCause, IsLookCause, IsHeaderRefusal, IsSurveyCause, IsLoadCause, IsOpenCause, IsFresh, IsOf, OnlyLooks, OnlySyncs, CountsOpen, CanRead, kept_view, reserve};
 
 use crate::layer::Layer;
 use cckd_base::{Extent, FORMAT_LIMIT, Layout, OpenFault, ScanFault};
@@ -28,9 +28,9 @@ const HEADERS: usize = 1024;
 
 /// What the headers of a file say, and the file's length.
 #[derive(Clone, Copy)]
-struct Found {
+pub(crate) struct Found {
     header: ImageHeader,
-    layout: Layout,
+    pub(crate) layout: Layout,
     len: u32,
 }
 
@@ -82,11 +82,12 @@ fn read_out(headers: &[u8; 1024], len: u64, slot: Slot, roles: Roles) -> Result<
 }
 
 /// What the headers of the file say, or their first fault.
-fn find<T: Stage>(stage: &mut T, slot: Slot, roles: Roles) -> Result<Found, OpenFault>
+pub(crate) fn find<T: Stage>(stage: &mut T, slot: Slot, roles: Roles) -> Result<Found, OpenFault>
     ensures layout { IfOk result (λ found. IsLayout found.layout) }
     ensures area { IfOk result (λ found. area_of found.layout.groups ≤ found.len) }
     ensures headed { OfFile slot (λ file. IfOk result (λ found. HasHeaders roles found.header found.layout found.len file)) (seen T.Shows stage.old) }
     ensures cause { IfErr result (IsFileCause roles slot (seen T.Shows stage.old)) }
+    ensures why { IfErr result (IsLookCause roles slot (seen T.Shows stage.old)) }
     ensures looks { OnlyLooks result (seen T.Shows stage.old) (seen T.Shows stage.new) }
 {
     let mut headers = [0; HEADERS];

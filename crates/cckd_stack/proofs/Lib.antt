@@ -1,3 +1,11 @@
 pub mod HistoryLemmas
 pub mod Rows
 pub mod TopLemmas
+pub mod LayerListLemmas
+pub mod DownLemmas
+pub mod RowLemmas
+pub mod MountedLemmas
+pub mod FirstLemmas
+pub mod BridgeLemmas
+pub mod CountedLemmas
+pub mod CheckLemmas

@@ -24,9 +24,13 @@ abbrev pub is_bad : ℕ → Geometry → ℕ → Option (List ℕ) → Bool
 is_bad level g t None = false
 is_bad level g t (Some bytes) = counts_as_bad (fault_at_level level g t bytes)
 
+-- how many of the first n tracks are
+abbrev pub bad_among : ℕ → Geometry → Layer → ℕ → ℕ
+bad_among level g layer n = length (filter (λ (t : ℕ). is_bad level g t (layer t)) (range_with_len 0 n))
+
 -- how many tracks of a layer are
 abbrev pub bad_in : ℕ → Geometry → Layer → ℕ
-bad_in level g layer = length (filter (λ (t : ℕ). is_bad level g t (layer t)) (range_with_len 0 (track_count g)))
+bad_in level g layer = bad_among level g layer (track_count g)
 
 -- how many of all layers are
 abbrev pub bad_tracks : ℕ → Geometry → Stack → ℕ

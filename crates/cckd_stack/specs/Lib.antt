@@ -7,3 +7,5 @@ pub mod Stops
 pub mod Opened
 pub mod Moments
 pub mod Tops
+pub mod Stacked
+pub mod Mounting

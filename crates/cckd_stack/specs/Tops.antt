@@ -1,7 +1,8 @@
 -- The last layer of a stack, and the file in its slot.
-use Rattle.std.specs.Prelude.{ℕ, List}
+use Rattle.std.specs.Prelude.{ℕ, List, [], ◌∷◌}
 use Rattle.cckd_base.specs.declared.geometry.Geometry.{Geometry}
 use Rattle.cckd_base.specs.Header.{base_identifier, shadow_identifier}
+use Rattle.cckd_layer.specs.Held.{Later}
 use Rattle.cckd_stack.specs.Layers.{Layer, Stack, base, shadow, layer_count}
 use Rattle.cckd_stack.specs.Answers.{Pair}
 use Rattle.cckd_stack.specs.Stops.{LayerLies}
@@ -22,3 +23,8 @@ pub record HoldsLies (identifier : List ℕ) (g : Geometry) (hard : Layer) (late
   pub layer : Layer
   pub holds : HoldsLayer identifier g file layer
   pub lies : LayerLies hard later layer
+
+-- pairs that were written, as a layer has them
+abbrev pub laters_of : List Pair → List Later
+laters_of [] = []
+laters_of (p ∷ ps) = record { track = p.0; bytes = p.1 } ∷ laters_of ps

@@ -3,6 +3,7 @@ use Rattle.cckd_image.specs.Image.{identifiers_of}
 use Rattle.cckd_shelf.specs.World.{file_of}
 use Rattle.cckd_shelf.specs.Seen.{seen}
 use Rattle.cckd_layer.proofs.FoundLemmas.{found_headed, found_refused, found_looks}
+use Rattle.cckd_layer.proofs.GlanceLemmas.{look_cause}
 use Rattle.cckd_layer.proofs.mounting.find.Goals as goal
 
 pub returns-in-Ok-clause-headed : goal.returns-in-Ok-clause-headed
@@ -20,3 +21,8 @@ returns-in-Ok-clause-looks g c =
     found_looks c.args.slot (header_fault (identifiers_of c.args.roles) c.read_headers.new.headers c.in-Ok.len) c.read_out.result
     (seen g.T.Shows c.args.stage.now) (seen g.T.Shows c.read_headers.new.stage)
     c.in-Ok.ensures.looks.kept c.in-Ok.ensures.looks.counts c.read_out.ensures.refusal
+
+pub returns-in-Ok-clause-why : goal.returns-in-Ok-clause-why
+returns-in-Ok-clause-why g c =
+    look_cause c.args.roles c.args.slot (seen g.T.Shows c.args.stage.now) c.read_headers.new.headers c.in-Ok.len c.read_out.result
+    c.in-Ok.ensures.headers c.in-Ok.ensures.length c.read_out.ensures.refusal
