@@ -20,6 +20,10 @@ use Rattle.cckd_stack.specs.Layers.{Layer, visible}
 use Rattle.cckd_stack.specs.Stacked.{map_of, maps_of, map_at, stack_to, stack_by, stack_of, IsLayerIn, AreLayersFrom, AreWhole, CanReadAll, OnlyCaches, IsPut, Passes, CountsKind, kind_told, OnlyReads}
 use Rattle.cckd_stack.proofs.LayerListLemmas.{all_set, map_here, maps_length, caches_here, caches_length, caches_layers, caches_whole, caches_maps, reads_stay, all_at, layer_at}
 
+-- a layer that is as before but for its cached tables is so but for its tables
+pub rest_of : (old new : LayerState) → new ≡ with_tables old (with_cached old.tables new.tables.cached) → new ≡ with_tables old new.tables
+rest_of old new e = e ∙ ap (with_tables old) (sym (ap (λ (s : LayerState). s.tables) e))
+
 -- ---- what is seen of a track from below some of the layers
 
 abbrev pub seen_to : List Layer → ℕ → ℕ → List ℕ

@@ -2,7 +2,7 @@ use Rattle.std.proofs.Common.{◌+◌, ◌-◌, length, get_or, ap, arith}
 use Rattle.cckd_shelf.specs.Seen.{seen}
 use Rattle.cckd_layer.specs.declared.held.Held.{Held}
 use Rattle.cckd_layer.specs.Mounted.{LayerState}
-use Rattle.cckd_stack.proofs.DownLemmas.{own_whole, own_device, one_asked, asked_cached, asked_reads, found_put, found_checked, found_passes, found_refused, nothing_refused, nothing_reads, refused_reads}
+use Rattle.cckd_stack.proofs.DownLemmas.{rest_of, own_whole, own_device, one_asked, asked_cached, asked_reads, found_put, found_checked, found_passes, found_refused, nothing_refused, nothing_reads, refused_reads}
 use Rattle.cckd_stack.proofs.reading.read_down.Goals as goal
 
 pub read-requires-clause-whole : goal.read-requires-clause-whole
@@ -36,7 +36,7 @@ returns-in-Err-clause-cached g c =
     (omega (arith, c.loop-done-test.true)) (get_or c.loop-done.layers (length c.args.layers.now - 1 - c.loop-done.done) c.index-layers-count.result)
     (ap (λ (d : LayerState). get_or c.loop-done.layers (length c.args.layers.now - 1 - c.loop-done.done) d) c.index-layers-count.is)
     (omega (arith, c.loop-done-test.true)) c.args.geo.now c.requires.layers c.requires.track
-    c.read.new.self (seen g.T.Shows c.read.new.stage) c.read.new.out (λ told. told) c.in-Err.ensures.rest c.in-Err.ensures.tables.looks.rest c.in-Err.ensures.can_read c.in-Err.ensures.reads.kept
+    c.read.new.self (seen g.T.Shows c.read.new.stage) c.read.new.out (λ told. told) (rest_of (get_or c.loop-done.layers (length c.args.layers.now - 1 - c.loop-done.done) c.index-layers-count.result) c.read.new.self c.in-Err.ensures.rest) c.in-Err.ensures.tables.looks.rest c.in-Err.ensures.can_read c.in-Err.ensures.reads.kept
 
 pub returns-in-Err-clause-can_read : goal.returns-in-Err-clause-can_read
 returns-in-Err-clause-can_read g c =
@@ -45,7 +45,7 @@ returns-in-Err-clause-can_read g c =
     (omega (arith, c.loop-done-test.true)) (get_or c.loop-done.layers (length c.args.layers.now - 1 - c.loop-done.done) c.index-layers-count.result)
     (ap (λ (d : LayerState). get_or c.loop-done.layers (length c.args.layers.now - 1 - c.loop-done.done) d) c.index-layers-count.is)
     (omega (arith, c.loop-done-test.true)) c.args.geo.now c.requires.layers c.requires.track
-    c.read.new.self (seen g.T.Shows c.read.new.stage) c.read.new.out (λ told. told) c.in-Err.ensures.rest c.in-Err.ensures.tables.looks.rest c.in-Err.ensures.can_read c.in-Err.ensures.reads.kept
+    c.read.new.self (seen g.T.Shows c.read.new.stage) c.read.new.out (λ told. told) (rest_of (get_or c.loop-done.layers (length c.args.layers.now - 1 - c.loop-done.done) c.index-layers-count.result) c.read.new.self c.in-Err.ensures.rest) c.in-Err.ensures.tables.looks.rest c.in-Err.ensures.can_read c.in-Err.ensures.reads.kept
 
 pub returns-in-Err-clause-reads : goal.returns-in-Err-clause-reads
 returns-in-Err-clause-reads g c =
@@ -83,7 +83,7 @@ returns-in-Here-clause-cached g c =
     (omega (arith, c.loop-done-test.true)) (get_or c.loop-done.layers (length c.args.layers.now - 1 - c.loop-done.done) c.index-layers-count.result)
     (ap (λ (d : LayerState). get_or c.loop-done.layers (length c.args.layers.now - 1 - c.loop-done.done) d) c.index-layers-count.is)
     (omega (arith, c.loop-done-test.true)) c.args.geo.now c.requires.layers c.requires.track
-    c.read.new.self (seen g.T.Shows c.read.new.stage) c.read.new.out (λ told. told) c.in-Ok.ensures.rest c.in-Ok.ensures.tables.looks.rest c.in-Ok.ensures.can_read c.in-Ok.ensures.reads.kept
+    c.read.new.self (seen g.T.Shows c.read.new.stage) c.read.new.out (λ told. told) (rest_of (get_or c.loop-done.layers (length c.args.layers.now - 1 - c.loop-done.done) c.index-layers-count.result) c.read.new.self c.in-Ok.ensures.rest) c.in-Ok.ensures.tables.looks.rest c.in-Ok.ensures.can_read c.in-Ok.ensures.reads.kept
 
 pub returns-in-Here-clause-can_read : goal.returns-in-Here-clause-can_read
 returns-in-Here-clause-can_read g c =
@@ -92,7 +92,7 @@ returns-in-Here-clause-can_read g c =
     (omega (arith, c.loop-done-test.true)) (get_or c.loop-done.layers (length c.args.layers.now - 1 - c.loop-done.done) c.index-layers-count.result)
     (ap (λ (d : LayerState). get_or c.loop-done.layers (length c.args.layers.now - 1 - c.loop-done.done) d) c.index-layers-count.is)
     (omega (arith, c.loop-done-test.true)) c.args.geo.now c.requires.layers c.requires.track
-    c.read.new.self (seen g.T.Shows c.read.new.stage) c.read.new.out (λ told. told) c.in-Ok.ensures.rest c.in-Ok.ensures.tables.looks.rest c.in-Ok.ensures.can_read c.in-Ok.ensures.reads.kept
+    c.read.new.self (seen g.T.Shows c.read.new.stage) c.read.new.out (λ told. told) (rest_of (get_or c.loop-done.layers (length c.args.layers.now - 1 - c.loop-done.done) c.index-layers-count.result) c.read.new.self c.in-Ok.ensures.rest) c.in-Ok.ensures.tables.looks.rest c.in-Ok.ensures.can_read c.in-Ok.ensures.reads.kept
 
 pub loop-done-preserved : goal.loop-done-preserved
 loop-done-preserved g c =
@@ -101,7 +101,7 @@ loop-done-preserved g c =
     (omega (arith, c.loop-done-test.true)) (get_or c.loop-done.layers (length c.args.layers.now - 1 - c.loop-done.done) c.index-layers-count.result)
     (ap (λ (d : LayerState). get_or c.loop-done.layers (length c.args.layers.now - 1 - c.loop-done.done) d) c.index-layers-count.is)
     (omega (arith, c.loop-done-test.true)) c.args.geo.now c.requires.layers c.requires.track
-    c.read.new.self (seen g.T.Shows c.read.new.stage) c.read.new.out (λ told. told) c.in-Ok.ensures.rest c.in-Ok.ensures.tables.looks.rest c.in-Ok.ensures.can_read c.in-Ok.ensures.reads.kept c.in-Ok.answer (length c.args.layers.now - (c.loop-done.done + 1))
+    c.read.new.self (seen g.T.Shows c.read.new.stage) c.read.new.out (λ told. told) (rest_of (get_or c.loop-done.layers (length c.args.layers.now - 1 - c.loop-done.done) c.index-layers-count.result) c.read.new.self c.in-Ok.ensures.rest) c.in-Ok.ensures.tables.looks.rest c.in-Ok.ensures.can_read c.in-Ok.ensures.reads.kept c.in-Ok.answer (length c.args.layers.now - (c.loop-done.done + 1))
     (omega (arith, c.loop-done-test.true)) c.in-Below.is c.in-Ok.ensures.tables.called c.in-Ok.ensures.reads.counts c.in-Ok.ensures.answer
 
 pub returns-clause-refusal : goal.returns-clause-refusal
