@@ -1,5 +1,0 @@
-use Rattle.std.proofs.Common.{◌*◌, ◌-◌, ◌≤◌}
-use Rattle.bench_space.proofs.fill.Given as goal
-
-abbrev pub invariant-loop : goal.invariant-loop
-invariant-loop l = 4 * (l.tracks - l.counter) ≤ l.space.spare

@@ -1,5 +1,0 @@
-use Rattle.std.proofs.Common.{◌*◌, ◌-◌, ◌≤◌}
-use Rattle.bench_space.proofs.refusals.Given as goal
-
-abbrev pub invariant-loop : goal.invariant-loop
-invariant-loop l = 2 * (l.calls - l.counter) ≤ l.space.spare

@@ -1,0 +1,3 @@
+pub mod Calls
+pub mod Engine
+pub mod Lines

@@ -1,0 +1,66 @@
+//! A stack of layers, as an engine uses it.
+ghost use Rattle.std.specs.Prelude.{◌≡◌, ◌∷◌, ℕ, List, length, false};
+ghost use Rattle.cckd_base.specs.declared.geometry.Geometry.{Geometry as Shape};
+ghost use Rattle.cckd_shelf.specs.Events.{Event, Put};
+ghost use Rattle.cckd_shelf.specs.Seen.{seen, Tells};
+ghost use Rattle.cckd_script.specs.Text.{FitsCall};
+ghost use Rattle.cckd_stack.specs.Layers.{Stack};
+ghost use Rattle.cckd_stack.specs.Answers.{MayAnswer, stack_after_call};
+ghost use Rattle.cckd_stack.specs.History.{reply_breaks};
+ghost use Rattle.cckd_stack.specs.Moments.{Hardening, IsHardened, KeepsStops};
+ghost use Rattle.cckd_engine.specs.Calls.{IsReady, CanAsk, KeepsRun, asks, answer_in, CountsReply};
+
+use cckd_base::{Call, Reply};
+use cckd_shelf::Stage;
+
+/// A stack of layers that makes calls.
+pub trait Disk {
+    /// The geometry of all its layers.
+    ghost geometry: { Self → Shape };
+
+    /// The stack that it stands for, where these events have happened.
+    ghost stack: { Self → List Event → Stack };
+
+    /// What ties it to the files of its slots.
+    ghost tied: { Self → List Event → Type 0 };
+
+    /// Makes a call. Bytes that it gives are `input`, and those that it is answered go to the front of `out`.
+    fn perform<T: Stage>(
+        &mut self,
+        stage: &mut T,
+        call: Call,
+        input: &[u8],
+        out: &mut [u8],
+    ) -> Reply
+        requires ready { IsReady (tied self.old) (seen T.Shows stage.old) }
+        requires asks { CanAsk call (length input.now) (length out.old) }
+        ensures answers { Tells (seen T.Shows stage.old) → MayAnswer (geometry self.old)
+            (stack self.old (seen T.Shows stage.old).world.events) (asks call input.now) (answer_in result out.new) }
+        ensures fits { FitsCall call (length input.now) result }
+        ensures out { length out.new ≡ length out.old }
+
+        // A call that doesn't break leaves the stack that the layered disk has after it.
+        ensures stack { Tells (seen T.Shows stage.old) → reply_breaks call result ≡ false
+            → stack self.new (seen T.Shows stage.new).world.events
+            ≡ stack_after_call (geometry self.old) (stack self.old (seen T.Shows stage.old).world.events) (asks call input.now) result }
+        ensures ready { reply_breaks call result ≡ false → IsReady (tied self.new) (seen T.Shows stage.new) }
+        ensures geometry { geometry self.new ≡ geometry self.old }
+
+        // At each operation of the call, for all that was hardened and written since.
+        ensures stops { (was : Hardening) → Tells (seen T.Shows stage.old)
+            → was.stack ≡ stack self.old (seen T.Shows stage.old).world.events
+            → IsHardened (geometry self.old) was (seen T.Shows stage.old).world.events
+            → KeepsStops (geometry self.old) was (asks call input.now) result
+            (seen T.Shows stage.old).world.events (seen T.Shows stage.new).world.events }
+
+        // A fault that was met is told, and no other count rose; nothing is put and nothing is taken.
+        ensures counts { CountsReply result (seen T.Shows stage.old).faults (seen T.Shows stage.new).faults }
+        ensures run { KeepsRun (seen T.Shows stage.old) (seen T.Shows stage.new) };
+
+    /// Bytes that are put out don't concern it.
+    ghost stack_at_put: { (disk : Self) (bytes : List ℕ) (events : List Event)
+        → stack disk (Put bytes ∷ events) ≡ stack disk events };
+
+    ghost tied_at_put: { (disk : Self) (bytes : List ℕ) (events : List Event)
+        → tied disk events → tied disk (Put bytes ∷ events) };
+}
