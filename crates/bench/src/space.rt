@@ -1,4 +1,4 @@
-//! The time of calls of `cckd_space` over images of any number of tracks.
+//! The time of calls of `cckd_space` over an image of any number of tracks.
 ghost use Rattle.std.specs.Prelude.{◌≡◌, ◌+◌, ◌*◌, ◌≤◌, IfOk};
 ghost use Rattle.cckd_space.specs.Plan.{IsNeed};
 
@@ -291,7 +291,7 @@ impl Bench {
 }
 
 /// One row: what the calls add up to, or how long one took.
-fn measure_row(
+fn put_row(
     rt: &HostRuntime,
     bench: &mut Bench,
     row: Row,
@@ -317,6 +317,19 @@ fn measure_row(
     Ok(())
 }
 
+fn put_rows(rt: &HostRuntime, tracks: u32, calls: u32, is_timed: bool) -> io::Result<()> {
+    let limit = tracks.saturating_mul(TRACK + GAP);
+    let mut bench = Bench {
+        image: built(rt.alloc(), tracks, 2_147_483_640)?,
+        tight: built(rt.alloc(), tracks, limit)?,
+        placed: Vec::new(rt.alloc()),
+    };
+    for row in ROWS {
+        put_row(rt, &mut bench, row, tracks, calls, is_timed)?;
+    }
+    Ok(())
+}
+
 /// The number that a word tells.
 fn number(word: Option<String>, otherwise: u32) -> u32 {
     match word {
@@ -325,26 +338,12 @@ fn number(word: Option<String>, otherwise: u32) -> u32 {
     }
 }
 
-/// Makes each kind of call so often over an image of so many tracks.
-fn measure_rows(rt: &HostRuntime, tracks: u32, calls: u32, is_timed: bool) -> io::Result<()> {
-    let limit = tracks.saturating_mul(TRACK + GAP);
-    let mut bench = Bench {
-        image: built(rt.alloc(), tracks, 2_147_483_640)?,
-        tight: built(rt.alloc(), tracks, limit)?,
-        placed: Vec::new(rt.alloc()),
-    };
-    for row in ROWS {
-        measure_row(rt, &mut bench, row, tracks, calls, is_timed)?;
-    }
-    Ok(())
-}
-
-/// How many picoseconds a call of each kind took: the words say over how many tracks, and how many calls.
+/// How many thousandths of a nanosecond a call of each kind takes, over so many tracks.
 pub fn measure(rt: &HostRuntime, tracks: Option<String>, calls: Option<String>) -> io::Result<()> {
-    measure_rows(rt, number(tracks, 1500), number(calls, 200), true)
+    put_rows(rt, number(tracks, 1500), number(calls, 1000), true)
 }
 
 /// What 200 calls of each kind over 1,500 tracks add up to.
 pub fn add_up(rt: &HostRuntime) -> io::Result<()> {
-    measure_rows(rt, 1500, 200, false)
+    put_rows(rt, 1500, 200, false)
 }
