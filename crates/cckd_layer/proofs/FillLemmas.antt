@@ -6,11 +6,12 @@ use Rattle.cckd_shelf.proofs.OutcomeLemmas.{write_made}
 use Rattle.cckd_base.specs.declared.geometry.Layout.{Layout}
 use Rattle.cckd_base.specs.declared.entry.L2Entry.{L2Entry}
 use Rattle.cckd_base.specs.Geometry.{track_count, area_of, format_limit, IsLayout}
+use Rattle.cckd_base.specs.Numbers.{bytes_at}
 use Rattle.cckd_base.specs.Entry.{word_at, entry_at}
 use Rattle.cckd_base.specs.Header.{headers_of, header_options}
 use Rattle.cckd_base.specs.Image.{IsPlace, ShareNoByte, IsImage}
 use Rattle.cckd_base.proofs.HeaderLemmas.{headed_layout}
-use Rattle.cckd_base.proofs.PlaceLemmas.{inside_first}
+use Rattle.cckd_base.proofs.PlaceLemmas.{inside_first, part_same}
 use Rattle.cckd_base.proofs.WriteLemmas.{Touches, IsFree, StaysImage, free_write}
 use Rattle.cckd_space.specs.declared.piece.Piece.{Piece}
 use Rattle.cckd_space.specs.Pieces.{is_free}
@@ -82,3 +83,11 @@ write_fills pos bytes was file leaves = record {
 
 pub fills_nothing : (pos n : ℕ) (was : List ℕ) → Fills pos n was was
 fills_nothing pos n was = record { outside = λ i low far. refl; no_shorter = omega arith; no_longer = omega arith }
+
+-- bytes beside the range stay
+pub fills_part : (pos n : ℕ) (was file : List ℕ) (at m : ℕ) → Fills pos n was file → ShareNoByte at m pos n → at + m ≤ length was → bytes_at file at m ≡ bytes_at was at m
+fills_part pos n was file at m fills far within =
+    part_same was file at m within fills.no_shorter (λ i a b. fills.outside i (omega (arith, b, within)) (elim far [
+      | inl h ↦ inl (omega (arith, b, h))
+      | inr h ↦ inr (omega (arith, a, h))
+    ]))

@@ -8,3 +8,11 @@ pub mod MountLemmas
 pub mod RoleLemmas
 pub mod FoundLemmas
 pub mod OpenLemmas
+pub mod PutLemmas
+pub mod CurrentLemmas
+pub mod StandLemmas
+pub mod StageLemmas
+pub mod StagedLemmas
+pub mod NamedLemmas
+pub mod NearLemmas
+pub mod CommitLemmas

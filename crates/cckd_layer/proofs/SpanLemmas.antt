@@ -14,13 +14,14 @@ use Rattle.cckd_space.specs.declared.piece.Kind.TheVariants.{Used, Free, Reserve
 use Rattle.cckd_space.specs.declared.piece.Piece.{Piece}
 use Rattle.cckd_space.specs.Pieces.{Has, IsLaid, NotBothFree, IsFormedAs, is_free, is_used_at, is_reserved_at, used_kind, reserved_kind, free_kind, first, replaced, settled, left, freed, merged, retired, retired_as, released, released_as, used_piece, reserved_piece, trimmed, used_end, cut, free_run, free_piece, has_room, aligned_up, appended, end_place, piece_end}
 use Rattle.cckd_space.specs.Plan.{Plan, Becomes, first_fit, place_of, with_reserved, size_with, size_at}
-use Rattle.cckd_space.proofs.LaidLemmas.{up, used_end_within, laid_le}
+use Rattle.cckd_space.proofs.LaidLemmas.{up, used_end_within, laid_le, laid_freed}
 use Rattle.cckd_space.proofs.CallerLemmas.{first_has, found, has_replaced, has_new, has_map, has_merged, has_trimmed, has_of_replaced, has_of_merged, placed_found, placed_keeps}
 use Rattle.cckd_space.proofs.PlaceLemmas.{has_within}
 use Rattle.cckd_space.proofs.SearchLemmas.{used_there}
 use Rattle.cckd_space.proofs.CountLemmas.{found_used, found_reserved}
 use Rattle.cckd_layer.specs.Sits.{held_kind, IsHeld, Rests, Sits}
 use Rattle.cckd_layer.specs.Current.{placed_piece, Spans}
+use Rattle.cckd_layer.specs.Acts.{given_back, GivesBack}
 use Rattle.cckd_layer.proofs.AccountLemmas.{has_of_map, has_of_placed, has_of_cut, unreleased, placed_at}
 
 -- ---- held bytes
@@ -392,33 +393,39 @@ reserved_form at (q ∷ qs) end p laid h k = elim h [
 ]
 
 -- a Reserved piece is given back, and the end is cut back to the file's length
-pub spans_given : (old mid new : Plan) (file : List ℕ) (pos : ℕ) → Becomes old mid (merged (replaced (is_reserved_at pos) (λ p. freed p ∷ []) old.pieces)) old.size → IsLaid 0 mid.pieces mid.size
-    → Becomes mid new (cut (length file) mid.size mid.pieces) (max (used_end mid.pieces) (min (length file) mid.size)) → IsLaid 0 new.pieces new.size → 0 < old.size
-    → Spans old file → Spans new file
-spans_given old mid new file pos b laid_mid c laid full s =
-    let within = used_end_within mid.pieces mid.size laid_mid in
-    let ends_mid : EndsBy (length file) mid.pieces = subst (EndsBy (length file)) (sym b.now) (ends_given (length file) pos old.pieces (spans_ends old file s)) in
-    let some = some_pieces 0 mid.pieces mid.size laid_mid (omega (arith, b.sized, full)) in
+pub spans_given : (old new : Plan) (file : List ℕ) (pos : ℕ) → GivesBack pos (length file) old new → IsLaid 0 new.pieces new.size → 0 < old.size → Spans old file → Spans new file
+spans_given old new file pos c laid full s =
+    let mid = given_back pos old.pieces in
+    let laid_mid : IsLaid 0 mid old.size = laid_freed (is_reserved_at pos) old.pieces old.size s.laid in
+    let within = used_end_within mid old.size laid_mid in
+    let ends_mid = ends_given (length file) pos old.pieces (spans_ends old file s) in
+    let some = some_pieces 0 mid old.size laid_mid full in
     record {
       laid = laid;
-      covers = omega (arith, s.covers, b.sized, c.sized);
-      ends = elim (used_end_there 0 mid.pieces mid.size laid_mid some) [
+      covers = omega (arith, s.covers, c.sized);
+      ends = elim (used_end_there 0 mid old.size laid_mid some) [
         | inl none ↦ inl (omega (arith, none, c.sized))
         | inr r ↦ elim (busy_kinds r.0 r.0.kind refl r.2) [
           | inl held ↦ let e = ends_mid.each r.0 r.1 held in inl (omega (arith, e, r.3, c.sized))
-          | inr kept ↦ elim (cases_le (used_end mid.pieces) (length file)) [
+          | inr kept ↦ elim (cases_le (used_end mid) (length file)) [
             | inl low ↦ inl (omega (arith, low, c.sized))
             | inr high ↦ inr (r.0.pos, r.0.size,
-                subst (Has (reserved_piece r.0.pos r.0.size)) (sym c.now) (has_trimmed mid.pieces _ (reserved_piece r.0.pos r.0.size) refl
-                (subst (λ (p : Piece). Has p mid.pieces) (reserved_form 0 mid.pieces mid.size r.0 laid_mid r.1 kept) r.1)),
+                subst (Has (reserved_piece r.0.pos r.0.size)) (sym c.now) (has_trimmed mid _ (reserved_piece r.0.pos r.0.size) refl
+                (subst (λ (p : Piece). Has p mid) (reserved_form 0 mid old.size r.0 laid_mid r.1 kept) r.1)),
                 omega (arith, high, c.sized, r.3))
           ]
         ]
       ];
-      inside = (subst (EndsBy (length file)) (sym c.now) (ends_cut (length file) (length file) mid.size mid.pieces ends_mid)).each;
-      short = omega (arith, s.short, b.sized, c.sized, within);
-      limited = omega (arith, s.limited, b.limit, c.limit);
+      inside = (subst (EndsBy (length file)) (sym c.now) (ends_cut (length file) (length file) old.size mid ends_mid)).each;
+      short = omega (arith, s.short, c.sized, within);
+      limited = omega (arith, s.limited, c.limit);
     }
   where
     cases_le : (a b : ℕ) → (a ≤ b) ⊎ (b < a)
     cases_le a b = elim (cases_lt b a) [ inl low ↦ inr low | inr high ↦ inl high ]
+
+-- the pieces are as they were
+pub spans_same : (old new : Plan) (file : List ℕ) → new.pieces ≡ old.pieces → new.size ≡ old.size → new.limit ≡ old.limit → Spans old file → Spans new file
+spans_same old new file same sized limit s =
+    spans_by old new file (subst (λ (n : ℕ). IsLaid 0 new.pieces n) (sym sized) (subst (λ (ps : List Piece). IsLaid 0 ps old.size) (sym same) s.laid)) sized limit
+    (subst (EndsBy (length file)) (sym same) (spans_ends old file s)) (λ pos n h. inr (subst (Has (reserved_piece pos n)) (sym same) h)) s

@@ -7,6 +7,8 @@ mod layer;
 mod mount_laws;
 mod mounting;
 mod reading;
+mod laws;
+mod placing;
 
 pub use cckd_base::Layout;
 pub use cckd_shelf::Slot;
@@ -14,3 +16,4 @@ pub use cckd_space::Space;
 pub use cckd_tables::{StagedEntry, StagedWord};
 pub use held::Held;
 pub use layer::Layer;
+pub use placing::{PutFault, put_bytes};

@@ -14,3 +14,12 @@ pub mod NumberedLemmas
 pub mod CacheLemmas
 pub mod TablesLemmas
 pub mod LookLemmas
+pub mod StagedLemmas
+pub mod WrittenLemmas
+pub mod BlendLemmas
+pub mod TableLoopLemmas
+pub mod WordLoopLemmas
+pub mod EntryLoopLemmas
+pub mod EntryRunLemmas
+pub mod PutRunLemmas
+pub mod CommitLemmas

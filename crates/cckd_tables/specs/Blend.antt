@@ -12,10 +12,11 @@ use Rattle.cckd_tables.specs.Staging.{Stages, IsStaged, IsMoved, new_entry, new_
 abbrev pub AreBesideNew : List StagedWord → ℕ → ℕ → Type 0
 AreBesideNew words a n = AllByRecursion (λ s. ShareNoByte a n s.pos 2048) words
 
--- the same outside the places of new tables, and no shorter
+-- the same outside the places of new tables, no shorter, and no longer than any length that has them all
 pub record Near (stages : Stages) (was file : List ℕ) : Type 0 where
   pub outside : (i : ℕ) → i < length was → AreBesideNew stages.words i 1 → slice_index file i ≡ slice_index was i
   pub no_shorter : length was ≤ length file
+  pub no_longer : (n : ℕ) → length was ≤ n → AllByRecursion (λ s. s.pos + 2048 ≤ n) stages.words → length file ≤ n
 
 -- each new table ends inside the file, and spells the new entries of the 256 places of its group
 pub record HasNewTables (l : Layout) (stages : Stages) (was file : List ℕ) : Type 0 where

@@ -4,30 +4,49 @@ use Rattle.std.specs.List.{AllByRecursion}
 use Rattle.std.specs.List.Sorted.{IsStrictlyIncreasing}
 use Rattle.cckd_base.specs.declared.geometry.Layout.{Layout}
 use Rattle.cckd_base.specs.declared.entry.L2Entry.{L2Entry}
-use Rattle.cckd_base.specs.Geometry.{track_count}
+use Rattle.cckd_base.specs.Geometry.{track_count, IsLayout}
 use Rattle.cckd_base.specs.Numbers.{bytes_at}
 use Rattle.cckd_base.specs.Entry.{word_at, entry_at, entry_in_table}
 use Rattle.cckd_base.specs.Misfit.{table_misfit, entry_misfit}
 use Rattle.cckd_base.specs.Image.{IsPlace, ShareNoByte, IsImage}
+use Rattle.cckd_shelf.specs.declared.fault.Faults.{Faults}
+use Rattle.cckd_shelf.specs.declared.fault.Kind.TheVariants.{Writes, Syncs}
+use Rattle.cckd_shelf.specs.Faults.{Raises}
 use Rattle.cckd_shelf.specs.Events.{Event}
 use Rattle.cckd_shelf.specs.World.{IsSure, file_of}
-use Rattle.cckd_shelf.specs.Outcomes.{IsOutcome}
+use Rattle.cckd_shelf.specs.Outcomes.{IsOutcome, EachOutcome, AtEach}
 use Rattle.cckd_shelf.specs.Seen.{Seen, Tells}
+use Rattle.cckd_tables.specs.declared.commit.Commit.{Commit}
+use Rattle.cckd_tables.specs.declared.device.Device.{Device}
+use Rattle.cckd_tables.specs.declared.device.Device.TheVariants.{Read, Write, Sync}
+use Rattle.cckd_tables.specs.declared.staged.StagedEntry.{StagedEntry}
+use Rattle.cckd_tables.specs.declared.staged.StagedWord.{StagedWord}
 use Rattle.cckd_tables.specs.Staging.{Stages, IsStaged, IsMoved, new_entry, new_word}
 use Rattle.cckd_tables.specs.Tables.{HasWords}
 use Rattle.cckd_tables.specs.Blend.{Near, HasNewTables, Blend, IsCommitted}
 
+-- the tracks of staged entries
+abbrev pub staged_tracks : List StagedEntry → List ℕ
+staged_tracks entries = map (λ s. s.track) entries
+
+-- the groups of staged words, and the places that the words name
+abbrev pub staged_groups : List StagedWord → List ℕ
+staged_groups words = map (λ s. s.group) words
+
+abbrev pub staged_places : List StagedWord → List ℕ
+staged_places words = map (λ s. s.pos) words
+
 -- what is staged is of tracks and groups that there are, each once and in their order
 pub record AreInOrder (l : Layout) (stages : Stages) : Type 0 where
-  pub tracks : IsStrictlyIncreasing (map (λ s. s.track) stages.entries)
-  pub groups : IsStrictlyIncreasing (map (λ s. s.group) stages.words)
+  pub tracks : IsStrictlyIncreasing (staged_tracks stages.entries)
+  pub groups : IsStrictlyIncreasing (staged_groups stages.words)
   pub tracks_there : AllByRecursion (λ s. s.track < track_count l.geo) stages.entries
   pub groups_there : AllByRecursion (λ s. s.group < l.groups) stages.words
 
 -- of 2,048 bytes for each staged word, in their order, each table spells the new entries of the 256 places of its group
 abbrev pub AreSpelled : Layout → Stages → List ℕ → List ℕ → Type 0
 AreSpelled l stages was tables =
-    (i : ℕ) → i < length stages.words → (t : ℕ) → t / 256 ≡ slice_index (map (λ s. s.group) stages.words) i
+    (i : ℕ) → i < length stages.words → (t : ℕ) → t / 256 ≡ slice_index (staged_groups stages.words) i
     → entry_in_table l tables (2048 * i) t ≡ new_entry l stages was t
 
 -- the spaces of two entries share no byte
@@ -84,13 +103,25 @@ pub record CanCommit (l : Layout) (stages : Stages) (was : List ℕ) : Type 0 wh
   pub apart : (g h : ℕ) → IsMoved g stages → IsMoved h stages → g ≢ h → ShareNoByte (new_word l stages was g) 2048 (new_word l stages was h) 2048
   pub synced : (mid : List ℕ) → Near stages was mid → HasNewTables l stages was mid → IsSynced l stages was mid
 
--- what it takes of what is shown: level-one words as the file of the slot has them, and tables that spell the new entries
-pub record MayCommit (l : Layout) (words : List ℕ) (stages : Stages) (tables : List ℕ) (slot : ℕ) (s : Seen) : Type 0 where
+-- what a commit stages
+abbrev pub stages_of : Commit → Stages
+stages_of c = record { entries = c.entries.now; words = c.moved.now }
+
+-- what is given to a commit fits together
+pub record IsCommit (c : Commit) : Type 0 where
+  pub layout : IsLayout c.layout.now
+  pub words : length c.words.now ≡ c.layout.now.groups
+  pub order : AreInOrder c.layout.now (stages_of c)
+  pub tables : length c.tables.now ≡ 2048 * length c.moved.now
+
+-- What a commit takes of what is shown: the level-one words are those of the slot's file, the tables spell the new entries, and the file
+-- takes them.
+pub record MayCommit (c : Commit) (slot : ℕ) (s : Seen) : Type 0 where
   pub tells : Tells s
   pub sure : IsSure s.world
-  pub words_are : HasWords l words (file_of s.world slot)
-  pub spelled : AreSpelled l stages (file_of s.world slot) tables
-  pub can : CanCommit l stages (file_of s.world slot)
+  pub words : HasWords c.layout.now c.words.now (file_of s.world slot)
+  pub spelled : AreSpelled c.layout.now (stages_of c) (file_of s.world slot) c.tables.now
+  pub can : CanCommit c.layout.now (stages_of c) (file_of s.world slot)
 
 -- before its sync a commit leaves an outcome from before, but for the places of new tables
 abbrev pub IsNearOutcome : Stages → ℕ → List Event → List ℕ → Type 0
@@ -107,3 +138,16 @@ IsCommittedFrom l stages was file = (mid : List ℕ) × IsSynced l stages was mi
 -- what a stop may leave in a commit that began with these events and this file
 abbrev pub MayLeave : Layout → Stages → ℕ → List Event → List ℕ → List ℕ → Type 0
 MayLeave l stages slot events was file = IsNearOutcome stages slot events file ⊎ IsBlended l stages was file
+
+-- the file is the one at the sync, and a stop leaves no other
+pub record IsSyncedNow (l : Layout) (stages : Stages) (slot : ℕ) (was : List ℕ) (s : Seen) : Type 0 where
+  pub sure : IsSure s.world
+  pub synced : IsSynced l stages was (file_of s.world slot)
+  pub alone : EachOutcome slot (λ file. file ≡ file_of s.world slot) s.world.events
+
+-- A commit reads nothing. A write that failed raised the count of writes, a sync that failed that of syncs, and no other count changed.
+abbrev pub CountsCommit : {A : Type 0} → Result A Device → Faults → Faults → Type 0
+CountsCommit (Ok done) old new = new ≡ old
+CountsCommit (Err Read) old new = ⊥
+CountsCommit (Err Write) old new = Raises Writes old new
+CountsCommit (Err Sync) old new = Raises Syncs old new

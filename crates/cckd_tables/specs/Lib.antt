@@ -1,5 +1,6 @@
 pub mod Blend
 pub mod Cached
+pub mod Cells
 pub mod Commit
 pub mod Device
 pub mod Inside

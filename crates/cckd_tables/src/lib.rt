@@ -2,7 +2,10 @@
 #![tactic(auto)]
 
 mod cache;
+mod cell;
+mod commit;
 mod device;
+mod entries;
 mod item;
 mod kept;
 mod progress;
@@ -11,11 +14,13 @@ mod staged;
 mod stages;
 mod surveyed;
 mod tables;
+mod table;
 #[cfg(test)]
 mod tests;
 mod words;
 
 pub use cckd_base::{Extent, Layout, Misfit, Owner, ScanFault};
+pub use commit::Commit;
 pub use device::Device;
 pub use staged::{StagedEntry, StagedWord};
 pub use surveyed::{SurveyFault, Surveyed, scan, survey};
