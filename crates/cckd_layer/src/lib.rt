@@ -6,9 +6,8 @@ mod laws;
 mod layer;
 mod mount_laws;
 mod mounting;
-mod reading;
-mod laws;
 mod placing;
+mod reading;
 
 pub use cckd_base::Layout;
 pub use cckd_shelf::Slot;

@@ -31,7 +31,7 @@ use Rattle.cckd_tables.proofs.BlendLemmas.{blend_entry, entry_written, new_table
 use Rattle.cckd_tables.proofs.TableLoopLemmas.{Went, went_nowhere, went_then}
 use Rattle.cckd_tables.proofs.WordLoopLemmas.{one_more, all_words}
 
-entry_in_front : (ss : List StagedEntry) (n t : ℕ) (e : L2Entry) → entry_for t (take n ss) ≡ Some e → entry_for t ss ≡ Some e
+pub entry_in_front : (ss : List StagedEntry) (n t : ℕ) (e : L2Entry) → entry_for t (take n ss) ≡ Some e → entry_for t ss ≡ Some e
 entry_in_front [] zero t e h = h
 entry_in_front [] (suc n) t e h = h
 entry_in_front (s ∷ ss) zero t e h = absurd (cc h)
@@ -43,7 +43,7 @@ entry_in_front (s ∷ ss) (suc n) t e h = elim (cases_eq s.track t) [
       ∙ entry_in_front ss n t e (sym (cond-false (s.track == t) (Some s.entry) (entry_for t (take n ss)) k) ∙ h)
 ]
 
-entry_before : (front : List StagedEntry) (s : StagedEntry) (t : ℕ) → s.track ≢ t → entry_for t (front ++ s ∷ []) ≡ entry_for t front
+pub entry_before : (front : List StagedEntry) (s : StagedEntry) (t : ℕ) → s.track ≢ t → entry_for t (front ++ s ∷ []) ≡ entry_for t front
 entry_before [] s t other = cond-false (s.track == t) (Some s.entry) None (ne_eqb s.track t other)
 entry_before (x ∷ front) s t other = ap (λ (o : Option L2Entry). cond (x.track == t) (Some x.entry) o) (entry_before front s t other)
 

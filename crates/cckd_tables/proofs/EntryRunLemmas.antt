@@ -33,7 +33,7 @@ use Rattle.cckd_tables.proofs.EntryLoopLemmas.{entries_more}
 -- ---- two writes side by side
 
 -- a write inside a file
-overlaid_inside : (file : List ℕ) (at : ℕ) (bytes : List ℕ) → at ≤ length file → overlaid file at bytes ≡ take at file ++ (bytes ++ drop (at + length bytes) file)
+pub overlaid_inside : (file : List ℕ) (at : ℕ) (bytes : List ℕ) → at ≤ length file → overlaid file at bytes ≡ take at file ++ (bytes ++ drop (at + length bytes) file)
 unfolding overlaid
 overlaid_inside file at bytes within =
     let none : at - length file ≡ 0 = omega arith in

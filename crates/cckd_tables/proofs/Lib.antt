@@ -23,3 +23,4 @@ pub mod EntryLoopLemmas
 pub mod EntryRunLemmas
 pub mod PutRunLemmas
 pub mod CommitLemmas
+pub mod TableLemmas

@@ -81,7 +81,7 @@ pub record Reentered (l : Layout) (old : List ℕ) (t : ℕ) (e : L2Entry) (new 
   pub here : entry_at l new t ≡ e
   pub others : (u : ℕ) → u < track_count l.geo → t ≢ u → entry_at l new u ≡ entry_at l old u
 
-two_cells : (w t u : ℕ) → t / 256 ≡ u / 256 → t ≢ u → ShareNoByte (w + 8 * (u % 256)) 8 (w + 8 * (t % 256)) 8
+pub two_cells : (w t u : ℕ) → t / 256 ≡ u / 256 → t ≢ u → ShareNoByte (w + 8 * (u % 256)) 8 (w + 8 * (t % 256)) 8
 two_cells w t u same differ = elim (cases_lt (u % 256) (t % 256)) [
   | inl lt ↦ inl (omega (arith, lt))
   | inr ge ↦ inr (omega (arith, ge, same, differ))

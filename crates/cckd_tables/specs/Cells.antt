@@ -1,5 +1,5 @@
 -- What the single steps of a commit take and keep.
-use Rattle.std.specs.Prelude.{◌≡◌, ◌⊎◌, ℕ, ◌+◌, ◌*◌, ◌/◌, ◌%◌, ◌<◌, ◌≤◌, List, [], ◌∷◌, ◌++◌, length, take, slice_index, Some, Result, OnOk, OnErr}
+use Rattle.std.specs.Prelude.{◌≡◌, ◌⊎◌, ℕ, ◌+◌, ◌*◌, ◌/◌, ◌%◌, ◌<◌, ◌≤◌, List, [], ◌∷◌, ◌++◌, length, take, slice_index, unwrap_or, Some, Result, OnOk, OnErr}
 use Rattle.cckd_base.specs.declared.order.Order.{Order}
 use Rattle.cckd_base.specs.declared.geometry.Layout.{Layout}
 use Rattle.cckd_base.specs.declared.entry.L2Entry.{L2Entry}
@@ -75,3 +75,11 @@ pub record AreEntriesWritten (l : Layout) (was : List ℕ) (stages : Stages) (n 
   pub blend : Blend l was stages file
   pub words : (g : ℕ) → g < l.groups → word_at l file g ≡ new_word l stages was g
   pub entries : (t : ℕ) (e : L2Entry) → t < track_count l.geo → entry_for t (take n stages.entries) ≡ Some e → entry_at l file t ≡ e
+
+-- the entry at a place of a table, counted by tracks
+abbrev pub entry_among : Order → List ℕ → ℕ → L2Entry
+entry_among order table t = entry_of order (bytes_at table (8 * (t % 256)) 8)
+
+-- in a group's table stand the entries of an older one, with these staged ones put over
+abbrev pub ArePutOver : Order → ℕ → List StagedEntry → List ℕ → List ℕ → Type 0
+ArePutOver order group entries old new = (t : ℕ) → t / 256 ≡ group → entry_among order new t ≡ unwrap_or (entry_for t entries) (entry_among order old t)

@@ -13,8 +13,8 @@ mod read;
 mod staged;
 mod stages;
 mod surveyed;
-mod tables;
 mod table;
+mod tables;
 #[cfg(test)]
 mod tests;
 mod words;
