@@ -26,16 +26,16 @@ pub filled_up : (n : ℕ) (file into : List ℕ) (front : ℕ) → front ≡ min
     → into ++ drop front (replicate n 0) ≡ take n (file ++ replicate n 0)
 filled_up n file into front f read = ⊎_elim
     (λ (less : length file < n).
-      let short : front ≡ length file = omega (arith, f, less) in
-      both_parts (read ∙ ap (λ (m : ℕ). take m file) short ∙ take-length file)
-          (ap (λ (m : ℕ). drop m (replicate n 0)) short ∙ drop-replicate (length file) n 0 ∙ sym (take-replicate (n - length file) n 0 (omega arith)))
-      ∙ sym (take-append-add file (replicate n 0) (n - length file))
-      ∙ ap (λ (m : ℕ). take m (file ++ replicate n 0)) (omega (arith, less)))
+    let short : front ≡ length file = omega (arith, f, less) in
+    both_parts (read ∙ ap (λ (m : ℕ). take m file) short ∙ take-length file)
+    (ap (λ (m : ℕ). drop m (replicate n 0)) short ∙ drop-replicate (length file) n 0 ∙ sym (take-replicate (n - length file) n 0 (omega arith)))
+    ∙ sym (take-append-add file (replicate n 0) (n - length file))
+    ∙ ap (λ (m : ℕ). take m (file ++ replicate n 0)) (omega (arith, less)))
     (λ (more : n ≤ length file).
-      let long : front ≡ n = omega (arith, f, more) in
-      both_parts (read ∙ ap (λ (m : ℕ). take m file) long)
-          (ap (λ (m : ℕ). drop m (replicate n 0)) long ∙ drop_of_length-le (replicate n 0) (omega (arith, length-replicate {A = ℕ} n 0)))
-      ∙ append-nil (take n file) ∙ sym (take-append-le n file (replicate n 0) more))
+    let long : front ≡ n = omega (arith, f, more) in
+    both_parts (read ∙ ap (λ (m : ℕ). take m file) long)
+    (ap (λ (m : ℕ). drop m (replicate n 0)) long ∙ drop_of_length-le (replicate n 0) (omega (arith, length-replicate {A = ℕ} n 0)))
+    ∙ append-nil (take n file) ∙ sym (take-append-le n file (replicate n 0) more))
     (cases_lt (length file) n)
 
 -- what was decoded is what the headers say, and they have no fault
@@ -84,8 +84,8 @@ found_refused roles slot old headers len (Ok found) read long h = tt
 found_refused roles slot old headers len (Err why) read long h =
     refused_by roles slot old (header_fault (identifiers_of roles) headers len) why
     (λ told sure.
-      ap (λ (s : List ℕ). header_fault (identifiers_of roles) s len) (read told sure)
-      ∙ ap (λ (n : ℕ). header_fault (identifiers_of roles) (headers_of (file_of old.world slot)) n) (long told sure))
+    ap (λ (s : List ℕ). header_fault (identifiers_of roles) s len) (read told sure)
+    ∙ ap (λ (n : ℕ). header_fault (identifiers_of roles) (headers_of (file_of old.world slot)) n) (long told sure))
     h
 
 refusal_counts : (slot : ℕ) (found : Option HeaderFault) (why : OpenFault) (old new : Faults) → IsHeaderRefusal slot found why → new ≡ old

@@ -147,8 +147,8 @@ mounted_stands l file plan slot w found sure here pieces sized limited each =
     let ps = pieces_of 0 (used_spaces l file) (length file) in
     let made : Plan = record { pieces = ps; size = length file; limit = plan.limit; spare = plan.spare } in
     let same : plan ≡ made =
-        ap (λ (x : List Piece). record { pieces = x; size = plan.size; limit = plan.limit; spare = plan.spare }) pieces
-        ∙ ap (λ (n : ℕ). record { pieces = ps; size = n; limit = plan.limit; spare = plan.spare }) sized in
+    ap (λ (x : List Piece). record { pieces = x; size = plan.size; limit = plan.limit; spare = plan.spare }) pieces
+    ∙ ap (λ (n : ℕ). record { pieces = ps; size = n; limit = plan.limit; spare = plan.spare }) sized in
     record {
       sure = sure;
       now = subst (Current l nothing_staged [] plan) (sym here) (subst (λ (p : Plan). Current l nothing_staged [] p file) (sym same) (mounted_current l file found plan.limit plan.spare limited));
@@ -177,7 +177,7 @@ stands_reads v tables slot w same stages stands are =
     let file = file_of w slot in
     let now : Sits v.layout v.plan.pieces file = stands.each file (now_is_outcome w.events slot) in
     let each : (t : ℕ) → t < track_count v.layout.geo → entry_misfit v.layout (length file) t (new_entry v.layout v.stages file t) ≡ None =
-        λ t low. entry_can v.layout v.stages file t (entry_for t v.stages.entries) refl (λ e named. (stands.now.entries t e named).fits) (now.whole.image.entries t low) in
+    λ t low. entry_can v.layout v.stages file t (entry_for t v.stages.entries) refl (λ e named. (stands.now.entries t e named).fits) (now.whole.image.entries t low) in
     record {
       are = are;
       entries = subst (λ (l : Layout). (t : ℕ) → t < track_count l.geo → entry_misfit l (length file) t (new_entry l tables.stages file t) ≡ None) (sym same)
@@ -218,12 +218,12 @@ mount_stands roles slot limit s w new sure made short fresh of snug =
     let l = s.tables.layout in
     let used = used_spaces l file in
     let laid : IsLaid 0 (pieces_of 0 used (length file)) (length file) =
-        subst (λ (ps : List Piece). IsLaid 0 ps (length file)) of.pieces (subst (IsLaid 0 s.plan.pieces) of.size fresh.sound.laid) in
+    subst (λ (ps : List Piece). IsLaid 0 ps (length file)) of.pieces (subst (IsLaid 0 s.plan.pieces) of.size fresh.sound.laid) in
     let found : IsFound l file = record { headed = headed_for roles l file of.sound.headed; clean = of.sound.clean; snug = snug; laid = laid } in
     let plain : Stands (record { layout = l; stages = nothing_staged; claims = []; plan = s.plan; marked = false }) slot new =
-        mounted_stands l file s.plan slot new found (subst IsSure (sym made) sure) (ap (λ (x : World). file_of x slot) made) of.pieces of.size
-        (subst (λ (n : ℕ). n ≤ format_limit) (sym fresh.limit_is) short)
-        (subst (λ (x : World). EachOutcome slot (λ left. left ≡ file) x.events) (sym made) (sync_leaves_now slot w.events sure)) in
+    mounted_stands l file s.plan slot new found (subst IsSure (sym made) sure) (ap (λ (x : World). file_of x slot) made) of.pieces of.size
+    (subst (λ (n : ℕ). n ≤ format_limit) (sym fresh.limit_is) short)
+    (subst (λ (x : World). EachOutcome slot (λ left. left ≡ file) x.events) (sym made) (sync_leaves_now slot w.events sure)) in
     subst (λ (stages : Stages). Stands (record { layout = l; stages = stages; claims = []; plan = s.plan; marked = s.marked }) slot new) (sym fresh.stages)
     (subst (λ (m : Bool). Stands (record { layout = l; stages = nothing_staged; claims = []; plan = s.plan; marked = m }) slot new) (sym fresh.marked) plain)
 

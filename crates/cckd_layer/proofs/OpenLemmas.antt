@@ -58,11 +58,13 @@ cause_before roles slot a b open_fault.Memory same h = tt
 pub survey_cause : (roles : Roles) (slot : ℕ) (l : Layout) (a : Seen) (why : OpenFault) → OfFile slot (IsHeaded (identifiers_of roles) l) a → IsSurveyCause slot l a why
     → IsFileCause roles slot a why
 survey_cause roles slot l a (open_fault.Header at fault) headed h = absurd h
-survey_cause roles slot l a (open_fault.Scan at fault) headed h =
-    (h.0, λ told sure.
+survey_cause roles slot l a (open_fault.Scan at fault) headed h = (
+  h.0,
+  λ told sure.
       let file = file_of a.world slot in
       let head : IsHeaded (identifiers_of roles) l file = headed told sure in
-      (head.sound, subst (λ (x : Layout). first_misfit (misfits x file) ≡ Some fault) head.says (h.1 told sure)))
+      (head.sound, subst (λ (x : Layout). first_misfit (misfits x file) ≡ Some fault) head.says (h.1 told sure)),
+)
 survey_cause roles slot l a (open_fault.Gap at) headed h = absurd h
 survey_cause roles slot l a (open_fault.Mismatch at base other) headed h = absurd h
 survey_cause roles slot l a open_fault.ReadFault headed h = tt

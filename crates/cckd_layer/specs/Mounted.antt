@@ -41,6 +41,10 @@ pub record LayerState : Type 0 where
 abbrev pub kept_view : LayerState → LayerView
 kept_view s = record { layout = s.tables.layout; stages = s.tables.stages; claims = []; plan = s.plan; marked = s.marked }
 
+-- the same with other tables
+abbrev pub with_tables : LayerState → TableView → LayerState
+with_tables s tables = record s { tables = tables }
+
 -- What reading takes of a file: the words and the cached tables are the file's, and each entry, the staged ones put over, can be.
 pub record ReadsFrom (tables : TableView) (file : List ℕ) : Type 0 where
   pub are : AreOf tables file

@@ -1,10 +1,10 @@
 //! One image that is written: what holds of its file between calls, and the acts that keep it so.
 #![tactic(auto)]
 
+mod counting;
 mod held;
 mod laws;
 mod layer;
-mod mount_laws;
 mod mounting;
 mod placing;
 mod reading;

@@ -42,11 +42,7 @@ fn front_of(len: u64) -> usize
 }
 
 /// Reads the headers of a file to a buffer of zeros, as far as the file has them, and answers the file's length.
-fn read_headers<T: Stage>(
-    stage: &mut T,
-    slot: Slot,
-    headers: &mut [u8],
-) -> Result<u64, OpenFault>
+fn read_headers<T: Stage>(stage: &mut T, slot: Slot, headers: &mut [u8]) -> Result<u64, OpenFault>
     requires zeros { headers.old ≡ replicate HEADERS 0 }
     ensures headers { OfFile slot (λ file. OnOk result (headers.new ≡ headers_of file)) (seen T.Shows stage.old) }
     ensures length { OfFile slot (λ file. IfOk result (λ len. len ≡ length file)) (seen T.Shows stage.old) }
@@ -63,12 +59,7 @@ fn read_headers<T: Stage>(
 }
 
 /// What these headers of a file of `len` bytes say, or their first fault.
-fn read_out(
-    headers: &[u8; 1024],
-    len: u64,
-    slot: Slot,
-    roles: Roles,
-) -> Result<Found, OpenFault>
+fn read_out(headers: &[u8; 1024], len: u64, slot: Slot, roles: Roles) -> Result<Found, OpenFault>
     ensures layout { IfOk result (λ found. IsLayout found.layout) }
     ensures area { IfOk result (λ found. area_of found.layout.groups ≤ found.len) }
     ensures sound { OnOk result (header_fault (identifiers_of roles) headers.now len ≡ None) }
@@ -166,12 +157,7 @@ fn plan(
 }
 
 /// The tables of a file with this layout, of which no table is kept yet.
-fn load<T: Stage>(
-    alloc: Global,
-    stage: &mut T,
-    slot: Slot,
-    l: &Layout,
-) -> Result<Tables, OpenFault>
+fn load<T: Stage>(alloc: Global, stage: &mut T, slot: Slot, l: &Layout) -> Result<Tables, OpenFault>
     requires layout { IsLayout l.now }
     requires area { HasBytes slot (area_of l.now.groups) (seen T.Shows stage.old) }
     ensures layout { IfOk result (λ tables. tables.layout ≡ l.now) }
@@ -250,30 +236,32 @@ fn open<U, T: Stage>(
     }
 }
 
-/// Mounts the file of a slot, which is synced first, as a layer that may grow to `limit` bytes.
-pub(crate) fn mount<U, T: Stage>(
-    alloc: Global,
-    stage: &mut T,
-    slot: Slot,
-    roles: Roles,
-    limit: u32,
-) -> Result<Layer<U>, OpenFault>
-    requires limit { limit ≤ FORMAT_LIMIT }
-    ensures fresh { IfOk result (IsFresh slot limit) }
-    ensures opened { OfFile slot (λ file. IfOk result (IsOf roles file)) (seen T.Shows stage.old) }
+impl<U> Layer<U> {
+    /// Mounts the file of a slot, which is synced first, as a layer that may grow to `limit` bytes.
+    pub fn mount<T: Stage>(
+        alloc: Global,
+        stage: &mut T,
+        slot: Slot,
+        roles: Roles,
+        limit: u32,
+    ) -> Result<Layer<U>, OpenFault>
+        requires limit { limit ≤ FORMAT_LIMIT }
+        ensures fresh { IfOk result (IsFresh slot limit) }
+        ensures opened { OfFile slot (λ file. IfOk result (IsOf roles file)) (seen T.Shows stage.old) }
 
-    // Where each space ends inside the file, the layer stands.
-    ensures stands { OfFile slot (λ file. IfOk result (λ layer. IsSnug layer.tables.layout file
-        → Stands (kept_view layer) slot (seen T.Shows stage.new).world)) (seen T.Shows stage.old) }
-    ensures can_read { IfOk result (λ layer. CanRead layer (seen T.Shows stage.new)) }
+        // Where each space ends inside the file, the layer stands.
+        ensures stands { OfFile slot (λ file. IfOk result (λ layer. IsSnug layer.tables.layout file
+            → Stands (kept_view layer) slot (seen T.Shows stage.new).world)) (seen T.Shows stage.old) }
+        ensures can_read { IfOk result (λ layer. CanRead layer (seen T.Shows stage.new)) }
 
-    // Why there is no layer, and what was done.
-    ensures cause { IfErr result (IsOpenCause roles slot (seen T.Shows stage.old)) }
-    ensures counts { CountsOpen result (seen T.Shows stage.old).faults (seen T.Shows stage.new).faults }
-    ensures syncs { OnlySyncs slot result (seen T.Shows stage.old) (seen T.Shows stage.new) }
-{
-    let Ok(()) = stage.sync(slot) else {
-        return Err(OpenFault::SyncFault);
-    };
-    open(alloc, stage, slot, roles, limit)
+        // Why there is no layer, and what was done.
+        ensures cause { IfErr result (IsOpenCause roles slot (seen T.Shows stage.old)) }
+        ensures counts { CountsOpen result (seen T.Shows stage.old).faults (seen T.Shows stage.new).faults }
+        ensures syncs { OnlySyncs slot result (seen T.Shows stage.old) (seen T.Shows stage.new) }
+    {
+        let Ok(()) = stage.sync(slot) else {
+            return Err(OpenFault::SyncFault);
+        };
+        open(alloc, stage, slot, roles, limit)
+    }
 }

@@ -24,8 +24,8 @@ returns-in-Err-survey-clause-cause g c =
     cause_before c.args.roles c.args.slot old mid c.in-Err-survey.fault (stays_same c.args.slot old mid (λ told. told) c.in-Ok.ensures.looks.kept)
     (survey_cause c.args.roles c.args.slot c.in-Ok.found.layout mid c.in-Err-survey.fault
     (λ told sure.
-      let kept = c.in-Ok.ensures.looks.kept told in
-      subst (λ (w : World). IsHeaded (identifiers_of c.args.roles) c.in-Ok.found.layout (file_of w c.args.slot)) (sym kept) (c.in-Ok.ensures.headed told (subst IsSure kept sure)).headed)
+    let kept = c.in-Ok.ensures.looks.kept told in
+    subst (λ (w : World). IsHeaded (identifiers_of c.args.roles) c.in-Ok.found.layout (file_of w c.args.slot)) (sym kept) (c.in-Ok.ensures.headed told (subst IsSure kept sure)).headed)
     c.in-Err-survey.ensures.cause)
 
 pub returns-in-Err-survey-clause-looks : goal.returns-in-Err-survey-clause-looks

@@ -3,7 +3,7 @@ use Rattle.cckd_shelf.specs.Seen.{seen}
 use Rattle.cckd_layer.specs.Mounted.{IsOf}
 use Rattle.cckd_layer.proofs.MountLemmas.{all_stand, all_read}
 use Rattle.cckd_layer.proofs.OpenLemmas.{synced_same, file_before}
-use Rattle.cckd_layer.proofs.mounting.mount.Goals as goal
+use Rattle.cckd_layer.proofs.layer.Layer.mount.Goals as goal
 
 pub returns-clause-stands : goal.returns-clause-stands
 returns-clause-stands g c = λ told sure.
