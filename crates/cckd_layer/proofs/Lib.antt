@@ -1,5 +1,7 @@
 pub mod AccountLemmas
+pub mod ActLemmas
 pub mod CommitLemmas
+pub mod CommittedLemmas
 pub mod CountLemmas
 pub mod CurrentLemmas
 pub mod FillLemmas
@@ -12,7 +14,11 @@ pub mod OpenLemmas
 pub mod PieceLemmas
 pub mod PutLemmas
 pub mod ReadLemmas
+pub mod RemarkLemmas
+pub mod RemarkedLemmas
 pub mod RoleLemmas
+pub mod SettledLemmas
+pub mod SpaceLemmas
 pub mod SpanLemmas
 pub mod StageLemmas
 pub mod StagedLemmas

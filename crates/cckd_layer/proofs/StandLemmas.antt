@@ -204,21 +204,21 @@ stands_placed v slot w new n some s r laid =
 
 -- ---- the file now rests in the pieces
 
-moved_or_not : (g : ℕ) (s : Stages) → IsMoved g s ⊎ (IsMoved g s → ⊥)
+pub moved_or_not : (g : ℕ) (s : Stages) → IsMoved g s ⊎ (IsMoved g s → ⊥)
 moved_or_not g s = by (place_for g s.words)
   where
     by : (o : Option ℕ) → IsSome o ⊎ (IsSome o → ⊥)
     by (Some x) = inl refl
     by None = inr (λ h. cc)
 
-staged_or_not : (t : ℕ) (s : Stages) → IsStaged t s ⊎ (IsStaged t s → ⊥)
+pub staged_or_not : (t : ℕ) (s : Stages) → IsStaged t s ⊎ (IsStaged t s → ⊥)
 staged_or_not t s = by (entry_for t s.entries)
   where
     by : (o : Option L2Entry) → IsSome o ⊎ (IsSome o → ⊥)
     by (Some x) = inl refl
     by None = inr (λ h. cc)
 
-held_as : (ps : List Piece) (p : Piece) → Has p ps → held_kind p.kind ≡ true → IsHeld ps p.pos p.size
+pub held_as : (ps : List Piece) (p : Piece) → Has p ps → held_kind p.kind ≡ true → IsHeld ps p.pos p.size
 held_as ps p h k = record { piece = p; there = h; kind = k; low = omega arith; high = omega arith }
 
 pub current_rests : (l : Layout) (s : Stages) (claims : List Extent) (plan : Plan) (file : List ℕ) → Current l s claims plan file → Rests l plan.pieces file

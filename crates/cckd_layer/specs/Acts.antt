@@ -1,5 +1,5 @@
 -- What the acts of a layer make of its pieces.
-use Rattle.std.specs.Prelude.{ℕ, ◌≡◌, ◌==◌, ◌<◌, ◌≤◌, nat_lt, nat_le, ◌&&◌, ◌||◌, min, max, if◌then◌else◌, List, [], ◌∷◌, map, Option, Some, None, IsSome}
+use Rattle.std.specs.Prelude.{ℕ, ◌≡◌, ◌==◌, ◌<◌, ◌≤◌, nat_lt, nat_le, ◌&&◌, ◌||◌, min, max, if◌then◌else◌, List, [], ◌∷◌, ◌++◌, map, Option, Some, None, IsSome}
 use Rattle.cckd_base.specs.declared.entry.L2Entry.{L2Entry}
 use Rattle.cckd_base.specs.declared.space.Extent.{Extent}
 use Rattle.cckd_base.specs.Entry.{see_parent}
@@ -73,3 +73,11 @@ entry_spaces (s ∷ ss) = names_nothing s.entry.pos (stored_space s.track s.entr
 abbrev pub word_spaces : List StagedWord → List Extent
 word_spaces [] = []
 word_spaces (s ∷ ss) = table_space s.group s.pos ∷ word_spaces ss
+
+-- the spaces that something staged names: those of entries, and then those of tables
+abbrev pub spaces_of : Stages → List Extent
+spaces_of s = entry_spaces s.entries ++ word_spaces s.words
+
+-- the pieces behind a commit: what something staged names is settled, and what leaves is retired
+abbrev pub committed_pieces : Stages → List Piece → List Piece
+committed_pieces s ps = map retired (settled_all (spaces_of s) ps)

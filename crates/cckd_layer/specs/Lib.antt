@@ -4,6 +4,7 @@ pub mod Current
 pub mod Changes
 pub mod Puts
 pub mod Acts
+pub mod Marks
 pub mod Stands
 pub mod Closed
 pub mod Reads
