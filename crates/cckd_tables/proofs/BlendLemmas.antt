@@ -85,6 +85,13 @@ new_inside : (l : Layout) (stages : Stages) (was : List ℕ) (g : ℕ) → IsRea
 new_inside l stages was g ready low moved =
     table_inside l (length was) g (new_word l stages was g) (ready.can_move.words g low) (ready.can_blend.places g low moved)
 
+pub new_table_bytes : (l : Layout) (stages : Stages) (was file : List ℕ) (g : ℕ) → IsReady l stages was → Blend l was stages file → g < l.groups → IsMoved g stages
+    → bytes_at file (new_word l stages was g) 2048 ≡ bytes_at was (new_word l stages was g) 2048
+new_table_bytes l stages was file g ready b low moved =
+    let p = new_word l stages was g in
+    let k = new_inside l stages was g ready low moved in
+    still_part l was stages file p 2048 p 2048 ready.layout b k.0 (λ h there named. ready.can_blend.apart g h low there moved named) (omega arith) (omega arith) k.1
+
 pub new_table_stays : (l : Layout) (stages : Stages) (was file : List ℕ) (t : ℕ) → IsReady l stages was → Blend l was stages file → t < track_count l.geo → IsMoved (t / 256) stages
     → entry_in_table l file (new_word l stages was (t / 256)) t ≡ new_entry l stages was t
 new_table_stays l stages was file t ready b low moved =

@@ -1,9 +1,10 @@
 -- The cached tables as entries of a list by recency.
 use Rattle.std.proofs.Common.{◌≡◌, ◌≢◌, ◌⊎◌, inl, inr, ℕ, zero, suc, ◌+◌, ◌-◌, ◌<◌, ◌≤◌, ◌==◌, true, false, cond, List, [], ◌∷◌, ◌++◌, length, map, take, Option, Some, None, IsNone, IsSome, IfSome, refl, sym, ◌∙◌, ap, subst, arith}
-use Rattle.std.specs.List.{AllByRecursion}
+use Rattle.std.specs.List.{AllByRecursion, IsDistinct}
+use Rattle.std.specs.Bool.{nat_eq}
 use Rattle.std.specs.Option.{option_map, is_some}
 use Rattle.std.proofs.lemmas.Bool.Decides.{eqb_tells}
-use Rattle.cckd_frames.specs.Frames.{Entry, Kept, IsKept, entry_of, entry_in, frame_of, without, IsUsed, promoted, holding, with_entries}
+use Rattle.cckd_frames.specs.Frames.{Entry, Kept, IsKept, frames, entry_of, entry_in, frame_of, without, IsUsed, promoted, holding, with_entries}
 use Rattle.cckd_frames.proofs.CallerLemmas.{key_of_entry}
 use Rattle.cckd_tables.specs.Tables.{CachedTable}
 use Rattle.cckd_tables.specs.Cached.{table_of, IsCached, tables_but, used_first, UsesTable, KeepsCached, tables_in, IsCache}
@@ -213,3 +214,45 @@ frame_whole f (e ∷ es) bytes is used all = elim (eqb_tells e.frame f) [
   | inl t ↦ (let h = rw t.0 at is in ap (λ (l : List ℕ). length l) h ∙ all.0)
   | inr t ↦ frame_whole f es bytes (let h = rw t.0 at is in h) (let h = rw t.0 at used in h) all.1
 ]
+
+-- the entry of a key has a value in each list of what its entries have
+entry_among_all : {X : Type 0} (h : Entry → X) (P : X → Type 0) (g : ℕ) (es : List Entry) (e : Entry) → entry_of g es ≡ Some e → AllByRecursion P (map h es) → P (h e)
+entry_among_all h P g [] e some all = absurd cc
+entry_among_all h P g (x ∷ xs) e some all = elim (eqb_tells x.key g) [
+  | inl t ↦ (let is : Some x ≡ Some e = (let s = rw t.0 at some in s) in let same : x ≡ e = cc in subst (λ (u : Entry). P (h u)) same all.0)
+  | inr t ↦ entry_among_all h P g xs e (let s = rw t.0 at some in s) all.1
+]
+
+-- where frames are distinct, the entry of a key is found by its frame
+found_frame : (g : ℕ) (es : List Entry) (e : Entry) → IsDistinct nat_eq (frames es) → entry_of g es ≡ Some e → entry_in e.frame es ≡ Some e
+unfolding IsDistinct
+found_frame g [] e distinct some = absurd cc
+found_frame g (x ∷ xs) e distinct some = elim (eqb_tells x.key g) [
+  | inl t ↦ (
+      let is : Some x ≡ Some e = (let s = rw t.0 at some in s) in
+      let same : x ≡ e = cc in
+      elim (eqb_tells x.frame e.frame) [ inl u ↦ rw u.0 is | inr u ↦ absurd (u.1 (ap (λ (y : Entry). y.frame) same)) ])
+  | inr t ↦ (
+      let rest = let s = rw t.0 at some in s in
+      let apart = entry_among_all (λ (y : Entry). y.frame) (λ f. nat_eq x.frame f ≡ false) g xs e rest distinct.0 in
+      elim (eqb_tells x.frame e.frame) [
+        | inl u ↦ absurd (let b : true ≡ false = sym u.0 ∙ apart in cc)
+        | inr u ↦ rw u.0 (found_frame g xs e distinct.1 rest)
+      ])
+]
+
+-- the bytes in the frame of a key are the table of its group
+pub table_peeked : (k : Kept) (g f : ℕ) (bytes : List ℕ) → IsCache k → Some f ≡ frame_of g k.entries → IfSome (entry_in f k.entries) (λ e. bytes ≡ e.body)
+    → table_of g (tables_in k.entries) ≡ Some bytes
+table_peeked k g f bytes cache found is =
+    let p = entry_of_frame f g k.entries found in
+    let there : entry_in f k.entries ≡ Some p.0 = ap (λ n. entry_in n k.entries) (sym p.2) ∙ found_frame g k.entries p.0 cache.kept.one_frame_each p.1 in
+    let same : bytes ≡ p.0.body = (let h = subst (λ (o : Option Entry). IfSome o (λ (e : Entry). bytes ≡ e.body)) there is in h) in
+    table_of_entries g k.entries ∙ ap (λ (o : Option Entry). option_map (λ (e : Entry). e.body) o) p.1 ∙ ap Some (sym same)
+
+-- the bytes in a frame are those of the entry of its key
+pub body_peeked : (k : Kept) (g f : ℕ) (bytes : List ℕ) → IsCache k → IfSome (entry_in f k.entries) (λ e. bytes ≡ e.body)
+    → (e : Entry) → entry_of g k.entries ≡ Some e → e.frame ≡ f → bytes ≡ e.body
+body_peeked k g f bytes cache is e some own =
+    let there : entry_in f k.entries ≡ Some e = ap (λ n. entry_in n k.entries) (sym own) ∙ found_frame g k.entries e cache.kept.one_frame_each some in
+    let h = subst (λ (o : Option Entry). IfSome o (λ (x : Entry). bytes ≡ x.body)) there is in h

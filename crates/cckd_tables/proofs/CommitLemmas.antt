@@ -22,11 +22,12 @@ use Rattle.cckd_tables.specs.declared.staged.StagedWord.{StagedWord}
 use Rattle.cckd_tables.specs.Staging.{Stages, place_for, IsMoved, new_word, new_entry}
 use Rattle.cckd_tables.specs.Tables.{HasWords}
 use Rattle.cckd_tables.specs.Blend.{Near, HasNewTables, Blend, IsCommitted}
-use Rattle.cckd_tables.specs.Commit.{staged_groups, staged_places, stages_of, AreSpelled, IsSynced, CanCommit, IsCommit, MayCommit, IsNearOutcome, IsBlended, IsCommittedFrom, MayLeave, IsSyncedNow}
+use Rattle.cckd_tables.specs.Commit.{staged_groups, staged_places, stages_of, AreInOrder, AreSpelled, IsSynced, CanCommit, IsCommit, MayCommit, IsNearOutcome, IsBlended, IsCommittedFrom, MayLeave, IsSyncedNow}
 use Rattle.cckd_tables.specs.Cells.{IsReady, AreDisjoint, AreTablesWritten}
 use Rattle.cckd_tables.proofs.FileLemmas.{part_of_part}
 use Rattle.cckd_tables.proofs.StagedLemmas.{some_of, new_word_at, place_own, place_index, increasing_lt}
-use Rattle.cckd_tables.proofs.BlendLemmas.{blend_self}
+use Rattle.cckd_tables.proofs.BlendLemmas.{blend_self, new_table_bytes}
+use Rattle.cckd_tables.proofs.FreshLemmas.{moved_low}
 
 abbrev blank : StagedWord
 blank = record { group = 0; pos = 0 }
@@ -125,3 +126,15 @@ pub blended_at_end : (l : Layout) (stages : Stages) (slot : ℕ) (was : List ℕ
     → StopsLeave slot (Blend l (file_of mid.world slot) stages) mid new → StopLeaves slot (IsBlended l stages was) new
 blended_at_end l stages slot was mid new tells synced h = λ told file outcome.
     (file_of mid.world slot, synced.synced, at_end (EachOutcome slot (Blend l (file_of mid.world slot) stages)) mid.world.events new.world.events (h (tells told)) file outcome)
+
+-- the new tables stay as they were written
+pub tables_stay : (l : Layout) (stages : Stages) (mid file tables : List ℕ) → IsReady l stages mid → AreInOrder l stages → Blend l mid stages file
+    → AreTablesWritten stages.words tables (length stages.words) mid → AreTablesWritten stages.words tables (length stages.words) file
+tables_stay l stages mid file tables ready order b h = record {
+  within = λ i low. let k = h.within i low in omega (arith, k, b.size);
+  bytes = λ i low.
+      let k = place_is l stages mid i order.groups low in
+      let there = moved_low l stages (slice_index (staged_groups stages.words) i) order k.0 in
+      let stay = new_table_bytes l stages mid file (slice_index (staged_groups stages.words) i) ready b there k.0 in
+      subst (λ (p : ℕ). bytes_at file p 2048 ≡ bytes_at mid p 2048) k.1 stay ∙ h.bytes i low;
+}

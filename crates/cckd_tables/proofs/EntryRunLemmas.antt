@@ -145,8 +145,7 @@ module _ (l : Layout) (was : List ℕ) (stages : Stages) (d : StagedEntry) (g : 
       let place : word_at l was (s.track / 256) + 8 * (s.track % 256) ≡ place_of_run c = ap (λ (n : ℕ). word_at l was n + 8 * (s.track % 256)) group ∙ ap (λ (n : ℕ). word_at l was g + 8 * n) cell in
       let one : AreEntriesWritten l was stages (i + 1) (overlaid file (place_of_run c) (entry_bytes l.order s.entry)) =
       subst (λ (n : ℕ). AreEntriesWritten l was stages (i + 1) (overlaid file n (entry_bytes l.order s.entry))) place
-      (entries_more l was (entry_bytes l.order s.entry) stages i d file ready order there inside
-      (λ moved. not (subst (λ (n : ℕ). IsMoved n stages) group moved)) each.0.size each.0.decoded h) in
+      (entries_more l was stages i d file ready order there inside (λ moved. not (subst (λ (n : ℕ). IsMoved n stages) group moved)) each.0 h) in
       let rest = run_entries k (i + 1) (c + 1) (overlaid file (place_of_run c) (entry_bytes l.order s.entry)) (omega (arith, low)) (omega (arith, few)) (next_counted i k c counted) each.1 one in
       let count : i + 1 + k ≡ i + suc k = omega arith in
       subst (λ (n : ℕ). AreEntriesWritten l was stages n (overlaid file (place_of_run c) (bytes_of_run i (suc k)))) count

@@ -19,8 +19,13 @@ pub mod WrittenLemmas
 pub mod BlendLemmas
 pub mod TableLoopLemmas
 pub mod WordLoopLemmas
+pub mod PutOverLemmas
 pub mod EntryLoopLemmas
 pub mod EntryRunLemmas
 pub mod PutRunLemmas
 pub mod CommitLemmas
 pub mod TableLemmas
+pub mod MakingLemmas
+pub mod SettleLemmas
+pub mod FreshLemmas
+pub mod MixtureLemmas

@@ -60,22 +60,29 @@ pub used_there : (g : ℕ) (old new : List CachedTable) (used : UsesTable g old 
 used_there g old new used =
     ap (λ (cs : List CachedTable). table_of g cs) used.first ∙ (elim (eqb_tells g g) [ inl t ↦ rw t.0 refl | inr t ↦ absurd (t.1 refl) ])
 
--- the table that was used is that of the file
+-- the entry in a table that was read
+pub entry_read : (l : Layout) (file table : List ℕ) (pos t : ℕ) → table ≡ bytes_at file pos 2048 → entry_of l.order (bytes_at table (8 * (t % 256)) 8) ≡ entry_in_table l file pos t
+entry_read l file table pos t is =
+    ap (entry_of l.order) (ap (λ (bs : List ℕ). bytes_at bs (8 * (t % 256)) 8) is ∙ part_of_part file pos 2048 (8 * (t % 256)) 8 (omega arith))
+
+-- the table that was used has the entries of the file's
 pub used_is : (v : TableView) (file : List ℕ) (g : ℕ) (new : List CachedTable) (used : UsesTable g v.cached new) → AreOf v file → g < v.layout.groups → IsPlace (slice_index v.words g)
-    → (IsNone (table_of g v.cached) → unwrap_or (table_of g new) [] ≡ bytes_at file (slice_index v.words g) 2048) → used.bytes ≡ bytes_at file (slice_index v.words g) 2048
-used_is v file g new used of low place read = by (table_of g v.cached) refl where
-  by : (o : Option (List ℕ)) → table_of g v.cached ≡ o → used.bytes ≡ bytes_at file (slice_index v.words g) 2048
+    → (IsNone (table_of g v.cached) → unwrap_or (table_of g new) [] ≡ bytes_at file (slice_index v.words g) 2048)
+    → (t : ℕ) → t / 256 ≡ g → entry_of v.layout.order (bytes_at used.bytes (8 * (t % 256)) 8) ≡ entry_in_table v.layout file (slice_index v.words g) t
+used_is v file g new used of low place read t own = by (table_of g v.cached) refl where
+  by : (o : Option (List ℕ)) → table_of g v.cached ≡ o → entry_of v.layout.order (bytes_at used.bytes (8 * (t % 256)) 8) ≡ entry_in_table v.layout file (slice_index v.words g) t
   by None is =
       let got = read (subst (λ (o : Option (List ℕ)). IsNone o) (sym is) refl) in
-      sym (ap (λ (o : Option (List ℕ)). unwrap_or o []) (used_there g v.cached new used)) ∙ got
+      entry_read v.layout file used.bytes (slice_index v.words g) t
+      (sym (ap (λ (o : Option (List ℕ)). unwrap_or o []) (used_there g v.cached new used)) ∙ got)
   by (Some bytes) is =
       let same = used.same (subst (λ (o : Option (List ℕ)). IsSome o) (sym is) refl) in
       let known = cached_has (IsCachedOf v.layout file) g used.bytes v.cached same of.cached in
-      known.bytes ∙ ap (λ w. bytes_at file w 2048) (of.words g low)
+      known.entries t own ∙ ap (λ w. entry_in_table v.layout file w t) (of.words g low)
 
 -- the tables still are those of the file
 pub used_of : (v : TableView) (file : List ℕ) (g : ℕ) (new : List CachedTable) (used : UsesTable g v.cached new) → AreOf v file → g < v.layout.groups → IsPlace (slice_index v.words g)
-    → used.bytes ≡ bytes_at file (slice_index v.words g) 2048 → AreOf (with_cached v new) file
+    → ((t : ℕ) → t / 256 ≡ g → entry_of v.layout.order (bytes_at used.bytes (8 * (t % 256)) 8) ≡ entry_in_table v.layout file (slice_index v.words g) t) → AreOf (with_cached v new) file
 used_of v file g new used of low place is = record {
   area = of.area;
   words = of.words;
@@ -83,14 +90,9 @@ used_of v file g new used of low place is = record {
   cached = used_has (IsCachedOf v.layout file) g v.cached new used (record {
     group = low;
     named = subst IsPlace (sym (of.words g low)) place;
-    bytes = is ∙ ap (λ w. bytes_at file w 2048) (sym (of.words g low));
+    entries = λ t own. is t own ∙ ap (λ w. entry_in_table v.layout file w t) (sym (of.words g low));
   }) of.cached;
 }
-
--- the entry in a table that was read
-pub entry_read : (l : Layout) (file table : List ℕ) (pos t : ℕ) → table ≡ bytes_at file pos 2048 → entry_of l.order (bytes_at table (8 * (t % 256)) 8) ≡ entry_in_table l file pos t
-entry_read l file table pos t is =
-    ap (entry_of l.order) (ap (λ (bs : List ℕ). bytes_at bs (8 * (t % 256)) 8) is ∙ part_of_part file pos 2048 (8 * (t % 256)) 8 (omega arith))
 
 -- a word that names a table gives the entry in it, and any other word gives one to its whole group
 pub word_gives_table : (l : Layout) (file : List ℕ) (word t : ℕ) → IsPlace word → entry_by_word l file word t ≡ entry_in_table l file word t
@@ -212,11 +214,9 @@ module _ (v : TableView) (file : List ℕ) (t word : ℕ) (new : List CachedTabl
     by (Err fault) used read got = tt
     by (Ok e) used read got =
         let there : IsPlace (slice_index v.words (t / 256)) = subst IsPlace is place in
-        let bytes = used_is v file (t / 256) new used of low there (λ absent. read absent ∙ ap (λ w. bytes_at file w 2048) is) in
-        let table : unwrap_or (table_of (t / 256) new) [] ≡ bytes_at file (slice_index v.words (t / 256)) 2048
-        = ap (λ (o : Option (List ℕ)). unwrap_or o []) (used_there (t / 256) v.cached new used) ∙ bytes in
+        let mine = used_is v file (t / 256) new used of low there (λ absent. read absent ∙ ap (λ w. bytes_at file w 2048) is) t refl in
         let named : IsPlace (word_at v.layout file (t / 256)) = subst IsPlace (sym (of.words (t / 256) low)) there in
-        got ∙ entry_read v.layout file (unwrap_or (table_of (t / 256) new) []) (slice_index v.words (t / 256)) t table
+        got ∙ ap (λ (o : Option (List ℕ)). entry_of v.layout.order (bytes_at (unwrap_or o []) (8 * (t % 256)) 8)) (used_there (t / 256) v.cached new used) ∙ mine
         ∙ ap (λ w. entry_in_table v.layout file w t) (sym (of.words (t / 256) low))
         ∙ sym (word_gives_table v.layout file (word_at v.layout file (t / 256)) t named)
         ∙ ap (λ (o : Option L2Entry). unwrap_or o (entry_at v.layout file t)) (sym none)
@@ -253,3 +253,7 @@ if_ok_where (Err e) T S P h = tt
 pub on_err : {A E : Type 0} (r : Result A E) (P Q : Type 0) → (P → Q) → OnErr r P → OnErr r Q
 on_err (Ok x) P Q f h = tt
 on_err (Err e) P Q f h = f h
+
+pub on_ok_where : {A E : Type 0} (r : Result A E) (T S P Q : Type 0) → (T → S → P → Q) → OnOk r (T → S → P) → OnOk r (T → S → Q)
+on_ok_where (Ok x) T S P Q f h = λ told sure. f told sure (h told sure)
+on_ok_where (Err e) T S P Q f h = tt

@@ -24,7 +24,7 @@ use Rattle.cckd_tables.specs.Commit.{staged_groups}
 use Rattle.cckd_tables.specs.Cells.{OneWrite, IsReady, AreWordsWritten}
 use Rattle.cckd_tables.proofs.StagedLemmas.{some_or_none, one_value, new_word_at, place_own, all_at}
 use Rattle.cckd_tables.proofs.WrittenLemmas.{reworded}
-use Rattle.cckd_tables.proofs.BlendLemmas.{blend_image, blend_word}
+use Rattle.cckd_tables.proofs.BlendLemmas.{blend_self, blend_image, blend_word}
 use Rattle.cckd_tables.proofs.TableLoopLemmas.{Went, went_nowhere, went_more, stop_then, file_then}
 
 -- ---- the first so many of a list
@@ -76,6 +76,7 @@ words_more l was bytes stages i d file ready order there low four spelled h =
             r.others g below other ∙ h.words g p below
             (sym (place_before (take i stages.words) s g other) ∙ (sym (ap (place_for g) (one_more stages.words i d low)) ∙ placed))
       ];
+      behind = λ k far below. r.outside k (omega (arith, below, h.blend.size)) (inr (omega (arith, far, inside))) ∙ h.behind k far below;
     }
 
 -- the first n words are written
@@ -83,13 +84,17 @@ pub record WordsSoFar (l : Layout) (slot : ℕ) (words : List StagedWord) (n : �
   pub stopped : (was : List ℕ) (entries : List StagedEntry) → IsReady l (record { entries = entries; words = words }) was
       → StopLeaves slot (Blend l was (record { entries = entries; words = words })) old → StopsLeave slot (Blend l was (record { entries = entries; words = words })) old new
   pub now : (was : List ℕ) (entries : List StagedEntry) → IsReady l (record { entries = entries; words = words }) was → Tells old
-      → Blend l was (record { entries = entries; words = words }) (file_of old.world slot) → AreWordsWritten l was (record { entries = entries; words = words }) n (file_of new.world slot)
+      → file_of old.world slot ≡ was → AreWordsWritten l was (record { entries = entries; words = words }) n (file_of new.world slot)
   pub went : Went slot old new
 
 pub words_first : (l : Layout) (slot : ℕ) (words : List StagedWord) (s : Seen) → WordsSoFar l slot words 0 s s
 words_first l slot words s = record {
   stopped = λ was entries ready each told. at_once (EachOutcome slot (Blend l was (record { entries = entries; words = words }))) s.world.events (each told);
-  now = λ was entries ready told b. record { blend = b; words = λ g p low placed. absurd (cc placed) };
+  now = λ was entries ready told same. record {
+    blend = subst (Blend l was (record { entries = entries; words = words })) (sym same) (blend_self l was (record { entries = entries; words = words }));
+    words = λ g p low placed. absurd (cc placed);
+    behind = λ i far low. ap (λ (f : List ℕ). get_or f i 0) same;
+  };
   went = went_nowhere slot s;
 }
 
@@ -109,10 +114,10 @@ module _ (l : Layout) (slot : ℕ) (words : List StagedWord) (bytes : List ℕ) 
   pub words_next : OneWrite slot (1024 + 4 * (get_or words i d).group) bytes (Ok tt) mid new → WordsSoFar l slot words (i + 1) old new
   words_next one = record {
     stopped = words_stopped (Ok tt) one;
-    now = λ was entries ready told b.
+    now = λ was entries ready told same.
         let stages : Stages = record { entries = entries; words = words } in
         subst (AreWordsWritten l was stages (i + 1)) (sym (file_then slot (1024 + 4 * (get_or words i d).group) bytes mid new one (tells told)))
-        (words_more l was bytes stages i d (file_of mid.world slot) ready order there low four spelled (so.now was entries ready told b));
+        (words_more l was bytes stages i d (file_of mid.world slot) ready order there low four spelled (so.now was entries ready told same));
     went = went_more slot (1024 + 4 * (get_or words i d).group) bytes old mid new tells one so.went;
   }
 

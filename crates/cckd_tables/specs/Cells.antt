@@ -3,18 +3,18 @@ use Rattle.std.specs.Prelude.{◌≡◌, ◌⊎◌, ℕ, ◌+◌, ◌*◌, ◌/�
 use Rattle.cckd_base.specs.declared.order.Order.{Order}
 use Rattle.cckd_base.specs.declared.geometry.Layout.{Layout}
 use Rattle.cckd_base.specs.declared.entry.L2Entry.{L2Entry}
-use Rattle.cckd_base.specs.Geometry.{track_count, IsLayout}
+use Rattle.cckd_base.specs.Geometry.{track_count, area_of, IsLayout}
 use Rattle.cckd_base.specs.Numbers.{bytes_at}
 use Rattle.cckd_base.specs.Entry.{word_at, entry_at, entry_of, entry_bytes}
-use Rattle.cckd_base.specs.Image.{ShareNoByte, IsImage}
+use Rattle.cckd_base.specs.Image.{IsPlace, ShareNoByte, IsImage}
 use Rattle.cckd_shelf.specs.declared.fault.Failed.{Failed}
 use Rattle.cckd_shelf.specs.declared.fault.Kind.TheVariants.{Writes}
 use Rattle.cckd_shelf.specs.World.{after_write, after_torn}
 use Rattle.cckd_shelf.specs.Seen.{Seen, Makes, MayMake, Fails}
 use Rattle.cckd_tables.specs.declared.staged.StagedEntry.{StagedEntry}
 use Rattle.cckd_tables.specs.declared.staged.StagedWord.{StagedWord}
-use Rattle.cckd_tables.specs.Staging.{Stages, entry_for, place_for, new_word}
-use Rattle.cckd_tables.specs.Blend.{Blend}
+use Rattle.cckd_tables.specs.Staging.{Stages, entry_for, place_for, IsMoved, new_word}
+use Rattle.cckd_tables.specs.Blend.{Blend, put_over}
 use Rattle.cckd_tables.specs.Commit.{staged_places, CanMove, CanBlend}
 
 -- one call that writes these bytes at a position of a slot
@@ -45,6 +45,7 @@ pub record AreTablesWritten (words : List StagedWord) (tables : List ℕ) (n : �
 pub record AreWordsWritten (l : Layout) (was : List ℕ) (stages : Stages) (n : ℕ) (file : List ℕ) : Type 0 where
   pub blend : Blend l was stages file
   pub words : (g p : ℕ) → g < l.groups → place_for g (take n stages.words) ≡ Some p → word_at l file g ≡ p
+  pub behind : (i : ℕ) → area_of l.groups ≤ i → i < length was → slice_index file i ≡ slice_index was i
 
 -- where the entry of a track stands, by the level-one words
 abbrev pub cell : List ℕ → ℕ → ℕ
@@ -75,6 +76,8 @@ pub record AreEntriesWritten (l : Layout) (was : List ℕ) (stages : Stages) (n 
   pub blend : Blend l was stages file
   pub words : (g : ℕ) → g < l.groups → word_at l file g ≡ new_word l stages was g
   pub entries : (t : ℕ) (e : L2Entry) → t < track_count l.geo → entry_for t (take n stages.entries) ≡ Some e → entry_at l file t ≡ e
+  pub tables : (g : ℕ) → g < l.groups → (IsMoved g stages → ⊥) → IsPlace (word_at l was g)
+      → bytes_at file (word_at l was g) 2048 ≡ put_over l.order g (take n stages.entries) (bytes_at was (word_at l was g) 2048)
 
 -- the entry at a place of a table, counted by tracks
 abbrev pub entry_among : Order → List ℕ → ℕ → L2Entry

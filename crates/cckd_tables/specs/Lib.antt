@@ -6,7 +6,9 @@ pub mod Device
 pub mod Inside
 pub mod Kept
 pub mod Looking
+pub mod Making
 pub mod Scan
+pub mod Settling
 pub mod Stages
 pub mod Staging
 pub mod Tables

@@ -13,7 +13,12 @@ use cckd_frames::{Frame, Frames};
 use cckd_shelf::{Slot, Stage};
 
 /// The table at a position of the file of a slot.
-fn read_table<T: Stage>(stage: &mut T, slot: Slot, pos: u32, table: &mut [u8]) -> Result<(), Device>
+pub(crate) fn read_table<T: Stage>(
+    stage: &mut T,
+    slot: Slot,
+    pos: u32,
+    table: &mut [u8],
+) -> Result<(), Device>
     requires length { length table.old ≡ 2048 }
     requires within { HasBytes slot (pos + 2048) (seen T.Shows stage.old) }
     ensures bytes { OnOk result (IsPart slot pos 2048 table.new (seen T.Shows stage.old)) }

@@ -48,6 +48,8 @@ impl Commit<'_> {
             (file_of (seen S.Shows shelf.old).world slot)) (seen S.Shows shelf.new)) }
         ensures now { MayCommit self.now slot (seen S.Shows shelf.old) → OnOk result (IsCommittedFrom self.now.layout.now (stages_of self.now)
             (file_of (seen S.Shows shelf.old).world slot) (file_of (seen S.Shows shelf.new).world slot)) }
+        ensures tables { MayCommit self.now slot (seen S.Shows shelf.old) → OnOk result (AreTablesWritten self.now.moved.now self.now.tables.now (length self.now.moved.now)
+            (file_of (seen S.Shows shelf.new).world slot)) }
         ensures sure { Tells (seen S.Shows shelf.old) → IsSure (seen S.Shows shelf.old).world → OnOk result (IsSure (seen S.Shows shelf.new).world) }
         ensures others { OnlyIn slot (seen S.Shows shelf.old) (seen S.Shows shelf.new) }
         ensures counts { CountsCommit result (seen S.Shows shelf.old).faults (seen S.Shows shelf.new).faults }
@@ -65,6 +67,8 @@ impl Commit<'_> {
         ensures stopped { StopsLeave slot (IsNearOutcome (stages_of self.now) slot (seen S.Shows shelf.old).world.events) (seen S.Shows shelf.old) (seen S.Shows shelf.new) }
         ensures done { MayCommit self.now slot (seen S.Shows shelf.old) → OnOk result (IsSyncedNow self.now.layout.now (stages_of self.now) slot
             (file_of (seen S.Shows shelf.old).world slot) (seen S.Shows shelf.new)) }
+        ensures tables { MayCommit self.now slot (seen S.Shows shelf.old) → OnOk result (AreTablesWritten self.now.moved.now self.now.tables.now (length self.now.moved.now)
+            (file_of (seen S.Shows shelf.new).world slot)) }
         ensures sure { Tells (seen S.Shows shelf.old) → IsSure (seen S.Shows shelf.old).world → OnOk result (IsSure (seen S.Shows shelf.new).world) }
         ensures others { OnlyIn slot (seen S.Shows shelf.old) (seen S.Shows shelf.new) }
         ensures counts { CountsCommit result (seen S.Shows shelf.old).faults (seen S.Shows shelf.new).faults }
@@ -86,7 +90,7 @@ impl Commit<'_> {
             → StopLeaves slot (Blend self.now.layout.now was (stages_of self.now)) (seen S.Shows shelf.old)
             → StopsLeave slot (Blend self.now.layout.now was (stages_of self.now)) (seen S.Shows shelf.old) (seen S.Shows shelf.new) }
         ensures now { (was : List ℕ) → IsReady self.now.layout.now (stages_of self.now) was → HasWords self.now.layout.now self.now.words.now was → Tells (seen S.Shows shelf.old)
-            → Blend self.now.layout.now was (stages_of self.now) (file_of (seen S.Shows shelf.old).world slot)
+            → file_of (seen S.Shows shelf.old).world slot ≡ was
             → OnOk result (IsCommitted self.now.layout.now was (stages_of self.now) (file_of (seen S.Shows shelf.new).world slot)) }
         ensures sure { Tells (seen S.Shows shelf.old) → IsSure (seen S.Shows shelf.old).world → OnOk result (IsSure (seen S.Shows shelf.new).world) }
         ensures others { OnlyIn slot (seen S.Shows shelf.old) (seen S.Shows shelf.new) }
@@ -146,7 +150,7 @@ pub(crate) fn write_words<S: Shelf>(
         → StopLeaves slot (Blend l.now was (record { entries = entries; words = words.now })) (seen S.Shows shelf.old)
         → StopsLeave slot (Blend l.now was (record { entries = entries; words = words.now })) (seen S.Shows shelf.old) (seen S.Shows shelf.new) }
     ensures now { (was : List ℕ) (entries : List Entry) → IsReady l.now (record { entries = entries; words = words.now }) was → Tells (seen S.Shows shelf.old)
-        → Blend l.now was (record { entries = entries; words = words.now }) (file_of (seen S.Shows shelf.old).world slot)
+        → file_of (seen S.Shows shelf.old).world slot ≡ was
         → OnOk result (AreWordsWritten l.now was (record { entries = entries; words = words.now }) (length words.now) (file_of (seen S.Shows shelf.new).world slot)) }
     ensures sure { Tells (seen S.Shows shelf.old) → IsSure (seen S.Shows shelf.old).world → OnOk result (IsSure (seen S.Shows shelf.new).world) }
     ensures others { OnlyIn slot (seen S.Shows shelf.old) (seen S.Shows shelf.new) }

@@ -3,6 +3,7 @@ ghost use Rattle.std.specs.Prelude.{◌≡◌, ◌⊎◌, ℕ, ◌*◌, ◌≤�
 ghost use Rattle.std.specs.List.{AllByRecursion};
 ghost use Rattle.std.specs.List.Sorted.{IsStrictlyIncreasing};
 ghost use Rattle.cckd_base.specs.Entry.{see_parent, entry_by_word};
+ghost use Rattle.cckd_tables.specs.Blend.{put_over};
 ghost use Rattle.cckd_tables.specs.Commit.{staged_tracks};
 ghost use Rattle.cckd_tables.specs.Cells.{IsEncoded, run_bytes, entry_among, ArePutOver};
 
@@ -26,7 +27,8 @@ pub(crate) fn put_run(order: Order, run: &[StagedEntry], into: &mut [u8])
 pub(crate) fn put_entries(order: Order, group: u32, entries: &[StagedEntry], table: &mut [u8])
     requires size { length table.old ≡ 2048 }
     requires order { IsStrictlyIncreasing (staged_tracks entries.now) }
-    ensures { ArePutOver order group entries.now table.old table.new }
+    ensures bytes { table.new ≡ put_over order group entries.now table.old }
+    ensures entries { ArePutOver order group entries.now table.old table.new }
 {
     for staged in entries {
         if staged.track / GROUP_TRACKS == group {
@@ -54,6 +56,18 @@ pub(crate) fn begin_table(l: &Layout, word: u32, table: &mut [u8])
     ensures { (file : List ℕ) (t : ℕ) → entry_among l.now.order table.new t ≡ entry_by_word l.now file word t }
 {
     let format = u16::from(l.null_fmt);
-    let (pos, len) = if word == 0 { (0, format) } else { (SEE_PARENT, u16::MAX) };
-    fill(l.order, L2Entry { pos, len, size: len }, table);
+    let (pos, len) = if word == 0 {
+        (0, format)
+    } else {
+        (SEE_PARENT, u16::MAX)
+    };
+    fill(
+        l.order,
+        L2Entry {
+            pos,
+            len,
+            size: len,
+        },
+        table,
+    );
 }

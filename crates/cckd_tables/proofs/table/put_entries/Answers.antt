@@ -1,9 +1,8 @@
 use Rattle.std.proofs.Common.{◌≡◌, ◌+◌, ◌*◌, ◌%◌, List, ℕ, length, take, get_or, sym, ◌∙◌, subst, rules}
 use Rattle.cckd_base.specs.Put.{IsPut}
 use Rattle.cckd_tables.specs.declared.staged.StagedEntry.{StagedEntry}
-use Rattle.cckd_tables.specs.Cells.{ArePutOver}
 use Rattle.cckd_tables.proofs.PutRunLemmas.{encoded_by}
-use Rattle.cckd_tables.proofs.TableLemmas.{put_over_more, put_over_skip}
+use Rattle.cckd_tables.proofs.TableLemmas.{ArePut, put_first, put_all, put_over_more, put_over_skip}
 use Rattle.cckd_tables.proofs.table.put_entries.Goals as goal
 use Rattle.cckd_tables.proofs.table.put_entries.Goals.{then-staged-group, else-staged-group}
 
@@ -13,7 +12,7 @@ blank = record { track = 0; entry = record { pos = 0; len = 0; size = 0 } }
 pub loop-staged-preserved : goal.loop-staged-preserved
 loop-staged-preserved c =
     let i = c.loop-staged.staged-index in
-    let P : List ℕ → Type 0 = ArePutOver c.args.order c.args.group (take (i + 1) c.args.entries.now) c.args.table.now in
+    let P : List ℕ → Type 0 = ArePut c.args.order c.args.group c.args.entries.now (i + 1) c.args.table.now in
     elim c.if-staged-group.branch [
       | then-staged-group w ↦ subst P (sym w.table-is)
           (put_over_more c.args.order c.args.group c.args.entries.now i blank c.args.table.now c.loop-staged.table c.requires.order c.loop-staged-test.true c.loop-staged.invariant
@@ -23,3 +22,14 @@ loop-staged-preserved c =
       | else-staged-group w ↦ subst P (sym w.table-is)
           (put_over_skip c.args.order c.args.group c.args.entries.now i blank c.args.table.now c.loop-staged.table c.requires.order c.loop-staged-test.true c.loop-staged.invariant w.if-staged-group.false)
     ]
+
+pub loop-staged-init : goal.loop-staged-init
+loop-staged-init c = put_first c.args.order c.args.group c.args.entries.now c.args.table.now
+
+pub returns-clause-bytes : goal.returns-clause-bytes
+returns-clause-bytes c =
+    (put_all c.args.order c.args.group c.args.entries.now c.loop-staged.staged-index c.args.table.now c.loop-staged.table c.loop-staged-test.false c.loop-staged.invariant).0
+
+pub returns-clause-entries : goal.returns-clause-entries
+returns-clause-entries c =
+    (put_all c.args.order c.args.group c.args.entries.now c.loop-staged.staged-index c.args.table.now c.loop-staged.table c.loop-staged-test.false c.loop-staged.invariant).1

@@ -1,6 +1,5 @@
-use Rattle.std.proofs.Common.{take}
-use Rattle.cckd_tables.specs.Cells.{ArePutOver}
+use Rattle.cckd_tables.proofs.TableLemmas.{ArePut}
 use Rattle.cckd_tables.proofs.table.put_entries.Given as goal
 
 abbrev pub invariant-loop-staged : goal.invariant-loop-staged
-invariant-loop-staged l = ArePutOver l.order l.group (take l.staged-index l.entries) l.fn.table l.table
+invariant-loop-staged l = ArePut l.order l.group l.entries l.staged-index l.fn.table l.table

@@ -22,14 +22,14 @@ returns-clause-stopped g c = λ was ready has each told.
     (c.write_entries.ensures.stopped was ready has (λ here. at_end Q old.world.events mid.world.events first) told)
 
 pub returns-clause-now : goal.returns-clause-now
-returns-clause-now g c = λ was ready has told b.
+returns-clause-now g c = λ was ready has told same.
     let l = c.args.self.now.layout.now in
     let stages = stages_of c.args.self.now in
     let mid = seen g.S.Shows c.write_words.new.shelf in
     let new = seen g.S.Shows c.write_entries.new.shelf in
     on_ok (AreEntriesWritten l was stages (length c.args.self.now.entries.now) (file_of new.world c.args.slot)) (IsCommitted l was stages (file_of new.world c.args.slot)) c.write_entries.result
     (λ h. all_entered l was stages (file_of new.world c.args.slot) h)
-    (c.write_entries.ensures.now was ready has told (words_entered l was stages (file_of mid.world c.args.slot) (c.in_ok-write_words.ensures.now was c.args.self.now.entries.now ready told b)))
+    (c.write_entries.ensures.now was ready has told (words_entered l was stages (file_of mid.world c.args.slot) ready (c.in_ok-write_words.ensures.now was c.args.self.now.entries.now ready told same)))
 
 pub returns-clause-others : goal.returns-clause-others
 returns-clause-others g c =

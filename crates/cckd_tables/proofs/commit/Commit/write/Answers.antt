@@ -1,9 +1,9 @@
+use Rattle.std.proofs.Common.{refl}
 use Rattle.cckd_shelf.specs.Seen.{seen}
 use Rattle.cckd_shelf.specs.World.{file_of}
 use Rattle.cckd_shelf.proofs.FrameLemmas.{only_twice}
 use Rattle.cckd_tables.specs.Commit.{stages_of}
-use Rattle.cckd_tables.proofs.BlendLemmas.{blend_self}
-use Rattle.cckd_tables.proofs.CommitLemmas.{ready_of, words_of, begun, near_left, all_left, blended_at_end}
+use Rattle.cckd_tables.proofs.CommitLemmas.{ready_of, words_of, begun, near_left, all_left, blended_at_end, tables_stay}
 use Rattle.cckd_tables.proofs.commit.Commit.write.Goals as goal
 
 pub returns-in_err-prepare-clause-stopped : goal.returns-in_err-prepare-clause-stopped
@@ -63,9 +63,22 @@ returns-clause-now g c = λ may.
       file_of mid.world c.args.slot,
       synced.synced,
       c.in-Ok.ensures.now (file_of mid.world c.args.slot) (ready_of l stages was (file_of mid.world c.args.slot) c.requires.layout synced.synced)
-          (words_of l c.args.self.now.words.now stages was (file_of mid.world c.args.slot) synced.synced may.words) may.tells (blend_self l (file_of mid.world c.args.slot) stages),
+          (words_of l c.args.self.now.words.now stages was (file_of mid.world c.args.slot) synced.synced may.words) may.tells refl,
     )
 
 pub returns-clause-others : goal.returns-clause-others
 returns-clause-others g c =
     only_twice c.args.slot (seen g.S.Shows c.args.shelf.now) (seen g.S.Shows c.prepare.new.shelf) (seen g.S.Shows c.put_over.new.shelf) (λ told. told) c.prepare.ensures.others c.put_over.ensures.others
+
+pub returns-clause-tables : goal.returns-clause-tables
+returns-clause-tables g c = λ may.
+    let l = c.args.self.now.layout.now in
+    let stages = stages_of c.args.self.now in
+    let mid = seen g.S.Shows c.prepare.new.shelf in
+    let new = seen g.S.Shows c.put_over.new.shelf in
+    let was = file_of (seen g.S.Shows c.args.shelf.now).world c.args.slot in
+    let synced = c.in_ok-prepare.ensures.done may in
+    let ready = ready_of l stages was (file_of mid.world c.args.slot) c.requires.layout synced.synced in
+    let committed = c.in-Ok.ensures.now (file_of mid.world c.args.slot) ready
+    (words_of l c.args.self.now.words.now stages was (file_of mid.world c.args.slot) synced.synced may.words) may.tells refl in
+    tables_stay l stages (file_of mid.world c.args.slot) (file_of new.world c.args.slot) c.args.self.now.tables.now ready c.requires.order committed.blend (c.in_ok-prepare.ensures.tables may)
