@@ -29,3 +29,4 @@ pub mod MakingLemmas
 pub mod SettleLemmas
 pub mod FreshLemmas
 pub mod MixtureLemmas
+pub mod CommittedLemmas
