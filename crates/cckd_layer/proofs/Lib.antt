@@ -16,6 +16,7 @@ pub mod PutLemmas
 pub mod ReadLemmas
 pub mod RemarkLemmas
 pub mod RemarkedLemmas
+<<<<<<< HEAD
 pub mod RoleLemmas
 pub mod SettledLemmas
 pub mod SpaceLemmas
@@ -23,3 +24,6 @@ pub mod SpanLemmas
 pub mod StageLemmas
 pub mod StagedLemmas
 pub mod StandLemmas
+=======
+pub mod ChainLemmas
+>>>>>>> origin/layer

@@ -5,6 +5,7 @@ pub mod Changes
 pub mod Puts
 pub mod Acts
 pub mod Marks
+pub mod Chain
 pub mod Stands
 pub mod Closed
 pub mod Reads

@@ -3,6 +3,7 @@
 
 mod counting;
 mod held;
+mod chaining;
 mod laws;
 mod layer;
 mod marking;
@@ -18,6 +19,7 @@ pub use cckd_space::Space;
 pub use cckd_tables::{Device, StagedEntry, StagedWord};
 pub use held::Held;
 pub use layer::Layer;
+pub use chaining::put_chain;
 pub use marking::{put_second, second_header};
 pub use placing::{PutFault, put_bytes};
 pub use settling::settle_staged;
