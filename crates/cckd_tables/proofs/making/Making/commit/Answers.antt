@@ -17,7 +17,7 @@ returns-in_err-make-clause-stopped g c = λ commits told.
     let slot = c.args.slot in
     kept_at (EachOutcome slot (MayLeave l stages slot old.world.events (file_of old.world slot))) old.world (g.T.Shows.world c.make.new.stage)
     (c.in_err-make.ensures.looks.kept told)
-    (λ file outcome. inl (file, outcome, record { outside = λ i low beside. refl; no_shorter = omega arith }))
+    (λ file outcome. inl (file, outcome, record { outside = λ i low beside. refl; no_shorter = omega arith; no_longer = λ n low all. low }))
 
 pub returns-clause-stopped : goal.returns-clause-stopped
 returns-clause-stopped g c = λ commits told.
