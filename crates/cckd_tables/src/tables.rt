@@ -1,10 +1,17 @@
 //! The two-level tables of one image, with entries and words that are staged over them.
-ghost use Rattle.std.specs.Prelude.{◌≡◌, ◌⊎◌, ◌↔◌, ◌+◌, ◌<◌, ◌/◌, ◌%◌, slice_get, IsTrue, IsOk, IfOk, OnOk, OnErr};
+ghost use Rattle.std.specs.Prelude.{◌≡◌, ◌⊎◌, ◌↔◌, ◌+◌, ◌<◌, ◌/◌, ◌%◌, slice_get, IsTrue, IsOk, IfOk, OnOk, OnErr, Err};
 ghost use Rattle.cckd_base.specs.Geometry.{track_count, area_of, IsLayout};
 ghost use Rattle.cckd_base.specs.Entry.{group_entry};
 ghost use Rattle.cckd_base.specs.Image.{IsPlace};
-ghost use Rattle.cckd_shelf.specs.Seen.{seen, HasBytes, Called};
-ghost use Rattle.cckd_tables.specs.Device.{OnlyLooks};
+ghost use Rattle.cckd_shelf.specs.World.{IsSure, file_of};
+ghost use Rattle.cckd_shelf.specs.Seen.{seen, Tells, Stays, HasBytes, Called};
+ghost use Rattle.cckd_shelf.specs.Stops.{StopLeaves, StopsLeave};
+ghost use Rattle.cckd_shelf.specs.Frame.{OnlyIn};
+ghost use Rattle.cckd_tables.specs.Device.{CountsDevice, OnlyLooks};
+ghost use Rattle.cckd_tables.specs.Tables.{AreOf};
+ghost use Rattle.cckd_tables.specs.Commit.{MayLeave, IsBlended, IsCommittedFrom};
+ghost use Rattle.cckd_tables.specs.Making.{Commits};
+ghost use Rattle.cckd_tables.specs.Settling.{Settles};
 ghost use Rattle.cckd_tables.specs.Staging.{IsStaged, IsMoved};
 ghost use Rattle.cckd_tables.specs.Stages.{free_count, with_entry, with_word, staged_spaces};
 ghost use Rattle.cckd_tables.specs.Cached.{IsCached, UsesTable, KeepsCached};
@@ -12,8 +19,10 @@ ghost use Rattle.cckd_tables.specs.Looking.{IsTables, HasAlignedTable, LoadsWord
 
 use crate::cache::table_entry;
 use crate::device::Device;
+use crate::making::Making;
+use crate::settling::{settle_entries, settle_words};
 use crate::staged::{StagedEntry, StagedWord};
-use crate::stages::Stages;
+use crate::stages::{STAGES, Stages};
 use crate::words::read_words;
 use cckd_base::{Extent, GROUP_TRACKS, L2Entry, Layout, Memory, SEE_PARENT, TABLE_LEN, Track};
 use cckd_frames::Frames;
@@ -32,6 +41,8 @@ pub struct Tables {
     words: Vec<u32>,
     stages: Stages,
     cache: Frames,
+    /// Room for the new tables of a commit.
+    tables: Vec<u8>,
 }
 
 impl Model for Tables {
@@ -39,12 +50,14 @@ impl Model for Tables {
 
     ghost Value = { TableView };
 
+    ghost use Rattle.std.specs.Prelude.{◌*◌, ◌≤◌, min};
+    ghost use Rattle.std.specs.Vec.{vec_capacity};
     ghost use Rattle.cckd_tables.specs.Cached.{IsCache, tables_in};
     ghost use Rattle.cckd_tables.specs.Looking.{IsTables};
 
     ghost view = { λ t. record { layout = t.layout; words = t.words.items; stages = t.stages; cached = tables_in t.cache.entries } };
 
-    ghost invariant = { λ t. IsTables (record { layout = t.layout; words = t.words.items; stages = t.stages; cached = tables_in t.cache.entries }) × IsCache t.cache };
+    ghost invariant = { λ t. IsTables (record { layout = t.layout; words = t.words.items; stages = t.stages; cached = tables_in t.cache.entries }) × IsCache t.cache × (2048 * min 256 t.layout.groups ≤ vec_capacity t.tables) };
 }
 
 /// The entry that a level-one word gives to all tracks of its group, where it names no table.
@@ -73,11 +86,14 @@ impl Tables {
         let words = vec![in alloc; 0; l.groups as usize]?;
         let stages = Stages::new(alloc)?;
         let cache = Frames::new(alloc, CACHED, TABLE_LEN)?;
+        let most = (l.groups as usize).min(STAGES);
+        let tables = Vec::with_capacity(alloc, TABLE_LEN as usize * most)?;
         Ok(Tables {
             layout: *l,
             words,
             stages,
             cache,
+            tables,
         })
     }
 
@@ -203,5 +219,42 @@ impl Tables {
             return Ok(entry);
         }
         table_entry(&mut self.cache, stage, slot, self.layout.order, t, word)
+    }
+
+    /// Writes all that is staged into the file of a slot: new tables, which a sync makes stay, and then words and
+    /// entries, which don't stay yet. All reads come before the first write.
+    pub fn commit<T: Stage>(&mut self, stage: &mut T, slot: Slot) -> Result<(), Device>
+        requires { IsOfSlot self.old slot (seen T.Shows stage.old) }
+
+        // The words and the cached tables are the new ones, and the same tables are cached.
+        ensures settled { OnOk result (Settles self.old self.new) }
+        ensures of { Commits self.old.layout self.old.stages slot (seen T.Shows stage.old)
+            → OnOk result (AreOf self.new (file_of (seen T.Shows stage.new).world slot)) }
+        ensures same { OnErr result (self.new ≡ self.old) }
+        ensures tables { IsTables self.new }
+
+        // The file, and what a stop leaves of it.
+        ensures now { Commits self.old.layout self.old.stages slot (seen T.Shows stage.old) → OnOk result (IsCommittedFrom self.old.layout self.old.stages
+            (file_of (seen T.Shows stage.old).world slot) (file_of (seen T.Shows stage.new).world slot)) }
+        ensures stopped { Commits self.old.layout self.old.stages slot (seen T.Shows stage.old) → StopsLeave slot (MayLeave self.old.layout self.old.stages slot
+            (seen T.Shows stage.old).world.events (file_of (seen T.Shows stage.old).world slot)) (seen T.Shows stage.old) (seen T.Shows stage.new) }
+        ensures done { Commits self.old.layout self.old.stages slot (seen T.Shows stage.old) → OnOk result (StopLeaves slot (IsBlended self.old.layout self.old.stages
+            (file_of (seen T.Shows stage.old).world slot)) (seen T.Shows stage.new)) }
+        ensures sure { Tells (seen T.Shows stage.old) → IsSure (seen T.Shows stage.old).world → OnOk result (IsSure (seen T.Shows stage.new).world) }
+        ensures others { OnlyIn slot (seen T.Shows stage.old) (seen T.Shows stage.new) }
+        ensures counts { CountsDevice result (seen T.Shows stage.old).faults (seen T.Shows stage.new).faults }
+        ensures read { result ≡ Err Device.Read → Stays (seen T.Shows stage.old) (seen T.Shows stage.new) }
+    {
+        let making = Making {
+            layout: &self.layout,
+            words: self.words.as_slice(),
+            entries: self.stages.entries(),
+            cache: &self.cache,
+        };
+        making.commit(stage, slot, self.stages.words(), &mut self.tables)?;
+        settle_words(self.words.as_mut_slice(), self.stages.words());
+        settle_entries(&mut self.cache, self.layout.order, self.stages.entries());
+        self.stages.clear();
+        Ok(())
     }
 }

@@ -11,7 +11,7 @@ invariant_of-self c =
     let old : TableView = record { layout = was.layout; words = was.words.items; stages = was.stages; cached = tables_in was.cache.entries } in
     let w : StagedWord = record { group = c.args.group; pos = c.args.pos } in
     let there = subst (λ (v : TableView). c.args.group < v.layout.groups) (sym c.self.view_is) c.requires.group in
-    (word_tables old w c.put_word.new.self c.self.invariant.0 there c.put_word.ensures.put c.put_word.ensures.staged, c.self.invariant.1)
+    (word_tables old w c.put_word.new.self c.self.invariant.0 there c.put_word.ensures.put c.put_word.ensures.staged, c.self.invariant.1, c.self.invariant.2)
 
 pub returns-clause-tables : goal.returns-clause-tables
 returns-clause-tables c =
