@@ -32,7 +32,7 @@ use Rattle.cckd_layer.specs.Held.{NullBytes, Tracks, Later, IsLater, LiesWithin,
 use Rattle.cckd_layer.specs.Sits.{identifiers_for, IsWhole, IsMarked, IsHeld, Rests, Sits}
 use Rattle.cckd_layer.specs.Current.{stored_space, IsTableOf, IsTrackOf, IsInUse, IsReplaced, IsNew, IsAmong, IsPlaced, placed_piece, Accounts, Spans, Current}
 use Rattle.cckd_layer.specs.Acts.{settled_all, spaces_of, committed_pieces}
-use Rattle.cckd_layer.specs.Stands.{nothing_staged, LayerView, Stands}
+use Rattle.cckd_layer.specs.Stands.{AreRising, nothing_staged, LayerView, Stands}
 use Rattle.cckd_layer.proofs.AccountLemmas.{accounts_same, accounts_retired}
 use Rattle.cckd_layer.proofs.SpanLemmas.{KeepsHeld, keeps_twice, held_retired, EndsBy, ends_retired, spans_by, spans_grown}
 use Rattle.cckd_layer.proofs.HeadLemmas.{headers_kept, headed_kept}
@@ -42,11 +42,6 @@ use Rattle.cckd_layer.proofs.NearLemmas.{near_whole, new_placed, all_found}
 use Rattle.cckd_layer.proofs.SpaceLemmas.{spaces_once, spaces_new, new_spaces}
 use Rattle.cckd_layer.proofs.SettledLemmas.{IsFilled, AreSettled, all_settled}
 use Rattle.cckd_layer.proofs.StandLemmas.{held_as, stands_sits, moved_or_not, staged_or_not}
-
--- what is staged stands in order
-pub record AreRising (s : Stages) : Type 0 where
-  pub tracks : IsStrictlyIncreasing (staged_tracks s.entries)
-  pub groups : IsStrictlyIncreasing (staged_groups s.words)
 
 -- the file at the sync of a commit, behind the file now
 pub synced_whole : (l : Layout) (s : Stages) (claims : List Extent) (plan : Plan) (was mid : List ℕ) → AreRising s → Sits l plan.pieces was → Current l s claims plan was → IsSynced l s was mid → StaysWhole l was mid

@@ -1,5 +1,8 @@
 pub mod AccountLemmas
 pub mod ActLemmas
+pub mod ChainLemmas
+pub mod CloseLemmas
+pub mod ClosedLemmas
 pub mod CommitLemmas
 pub mod CommittedLemmas
 pub mod CountLemmas
@@ -16,7 +19,6 @@ pub mod PutLemmas
 pub mod ReadLemmas
 pub mod RemarkLemmas
 pub mod RemarkedLemmas
-<<<<<<< HEAD
 pub mod RoleLemmas
 pub mod SettledLemmas
 pub mod SpaceLemmas
@@ -24,6 +26,3 @@ pub mod SpanLemmas
 pub mod StageLemmas
 pub mod StagedLemmas
 pub mod StandLemmas
-=======
-pub mod ChainLemmas
->>>>>>> origin/layer

@@ -4,6 +4,7 @@
 mod counting;
 mod held;
 mod chaining;
+mod closing;
 mod laws;
 mod layer;
 mod marking;
@@ -20,7 +21,9 @@ pub use cckd_tables::{Device, StagedEntry, StagedWord};
 pub use held::Held;
 pub use layer::Layer;
 pub use chaining::put_chain;
-pub use marking::{put_second, second_header};
+pub use closing::close_image;
+pub use laws::{commits_stand, puts_stand, releases_stand};
+pub use marking::{close_header, open_header, put_second, second_header};
 pub use placing::{PutFault, put_bytes};
 pub use settling::settle_staged;
 pub use staging::{give_place_back, leave_place};
