@@ -1,10 +1,11 @@
 //! One image that is written: what holds of its file between calls, and the acts that keep it so.
 #![tactic(auto)]
 
-mod counting;
-mod held;
 mod chaining;
 mod closing;
+mod committing;
+mod counting;
+mod held;
 mod laws;
 mod layer;
 mod marking;
@@ -13,16 +14,18 @@ mod placing;
 mod reading;
 mod settling;
 mod staging;
+#[cfg(test)]
+mod tests;
 
 pub use cckd_base::Layout;
 pub use cckd_shelf::Slot;
 pub use cckd_space::Space;
 pub use cckd_tables::{Device, StagedEntry, StagedWord};
-pub use held::Held;
-pub use layer::Layer;
 pub use chaining::put_chain;
 pub use closing::close_image;
+pub use held::Held;
 pub use laws::{commits_stand, puts_stand, releases_stand};
+pub use layer::Layer;
 pub use marking::{close_header, open_header, put_second, second_header};
 pub use placing::{PutFault, put_bytes};
 pub use settling::settle_staged;

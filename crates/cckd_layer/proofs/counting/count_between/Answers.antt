@@ -24,13 +24,13 @@ loop-number-preserved g c =
     (seen g.T.Shows c.args.stage.now) (seen g.T.Shows c.loop-number.stage) (seen g.T.Shows c.entry_of.new.stage) t c.loop-number.count c.one_for-count.result
     was (λ told. told) own small
     (λ told sure.
-      let file = file_of (g.T.Shows.world c.args.stage.now) c.args.slot in
-      let kept = was.kept told in
-      let is : e ≡ new_entry c.loop-number.tables.layout c.loop-number.tables.stages (file_of (g.T.Shows.world c.loop-number.stage) c.args.slot) t =
-          c.in-Ok.ensures.entry told (subst IsSure (sym kept) sure) in
-      let there : e ≡ new_entry c.loop-number.tables.layout c.loop-number.tables.stages file t =
-          subst (λ (w : World). e ≡ new_entry c.loop-number.tables.layout c.loop-number.tables.stages (file_of w c.args.slot) t) kept is in
-      let first : e ≡ new_entry l s file t = there ∙ ap (λ (v : TableView). new_entry v.layout v.stages file t) was.rest in
-      held_counts null l s file t e first ∙ sym c.one_for-count.ensures)
+    let file = file_of (g.T.Shows.world c.args.stage.now) c.args.slot in
+    let kept = was.kept told in
+    let is : e ≡ new_entry c.loop-number.tables.layout c.loop-number.tables.stages (file_of (g.T.Shows.world c.loop-number.stage) c.args.slot) t =
+    c.in-Ok.ensures.entry told (subst IsSure (sym kept) sure) in
+    let there : e ≡ new_entry c.loop-number.tables.layout c.loop-number.tables.stages file t =
+    subst (λ (w : World). e ≡ new_entry c.loop-number.tables.layout c.loop-number.tables.stages (file_of w c.args.slot) t) kept is in
+    let first : e ≡ new_entry l s file t = there ∙ ap (λ (v : TableView). new_entry v.layout v.stages file t) was.rest in
+    held_counts null l s file t e first ∙ sym c.one_for-count.ensures)
     c.in-Ok.ensures.looks c.in-Ok.ensures.used c.in-Ok.ensures.can_read c.in-Ok.ensures.reads.kept c.in-Ok.ensures.reads.counts
     c.in-Ok.ensures.quiet c.in-Ok.ensures.called

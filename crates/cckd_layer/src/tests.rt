@@ -1,0 +1,252 @@
+//! Mounting and reading small images: a 2311 has 2,000 tracks in eight groups, and its header area ends at 1,056.
+ghost use Rattle.std.specs.Prelude.{◌≡◌, ◌≤◌, false, length, vec_len, IfOk};
+ghost use Rattle.cckd_shelf.specs.Seen.{seen};
+ghost use Rattle.cckd_layer.specs.Mounted.{CanRead};
+
+use crate::{Held, Layer};
+use cckd_base::{FORMAT_LIMIT, HeaderFault, LayerFault, Misfit, OpenFault, Track, TrackFault};
+use cckd_image::Roles;
+use cckd_memory::{Bytes, FileIn, MemoryStage};
+use cckd_shelf::{Shelf, Slot, Stage};
+use cckd_track::Ckd;
+use std::alloc::{AllocError, Global};
+use std::test::Fail;
+
+/// Bytes at a place of a file.
+type Patch<'a> = (usize, &'a [u8]);
+
+/// The headers of a 2311 as it is made; its eight level-one words are 0.
+const RAW_2311: [Patch<'static>; 3] = [
+    (0, b"CKD_C370\x0a\0\0\0\0\x10\0\0\x11"),
+    (512, b"\0\x03\x01\0\x08\0\0\0\0\x01\0\0\x20\x04\0\0\x20\x04"),
+    (552, b"\xc8\0\0\0\0\0\xff\xff"),
+];
+
+/// What a write of one record of eight bytes aa to track 0 leaves behind the headers.
+const WRITTEN: [Patch<'static>; 5] = [
+    (1024, b"\x20\x04"),
+    (1056, b"\x20\x0c\0\0\x2d\0\x30\0"),
+    (3116, b"\x08"),
+    (3129, b"\x01\0\0\x08\xaa\xaa\xaa\xaa\xaa\xaa\xaa\xaa"),
+    (3141, b"\xff\xff\xff\xff\xff\xff\xff\xff"),
+];
+
+/// A shadow of it: no other group has a table.
+const SHADOW: [Patch<'static>; 2] = [
+    (0, b"CKD_S370"),
+    (
+        1028,
+        b"\xff\xff\xff\xff\xff\xff\xff\xff\xff\xff\xff\xff\xff\xff\xff\xff\xff\xff\xff\xff\xff\xff\xff\xff\xff\xff\xff\xff",
+    ),
+];
+
+/// The bytes of track 0, and those of a null track 1.
+const STORED: [u8; 45] =
+    *b"\0\0\0\0\0\0\0\0\0\0\0\0\x08\0\0\0\0\0\0\0\0\0\0\0\0\x01\0\0\x08\xaa\xaa\xaa\xaa\xaa\xaa\xaa\xaa\xff\xff\xff\xff\xff\xff\xff\xff";
+
+const NULL_1: [u8; 37] =
+    *b"\0\0\0\0\x01\0\0\0\x01\0\0\0\x08\0\0\0\0\0\0\0\0\0\0\0\x01\x01\0\0\0\xff\xff\xff\xff\xff\xff\xff\xff";
+
+/// Puts bytes over those of a file, as far as it reaches.
+fn patch(file: &mut [u8], patches: &[Patch]) {
+    for (at, bytes) in patches {
+        for (place, byte) in file.iter_mut().skip(*at).zip(*bytes) {
+            *place = *byte;
+        }
+    }
+}
+
+/// A 2311 whose track 0 was written, with more bytes put into it.
+fn written(alloc: Global, len: usize, more: &[Patch]) -> Result<Vec<u8>, Fail> {
+    let mut file = vec![in alloc; 0; len]?;
+    patch(&mut file, &RAW_2311);
+    patch(&mut file, &WRITTEN);
+    patch(&mut file, more);
+    Ok(file)
+}
+
+/// A stage with these bytes in slot 0, where the calls of these numbers fail: the first binds the slot.
+fn stage_of(alloc: Global, bytes: &[u8], failing: &[u64]) -> Result<(MemoryStage, Slot), Fail> {
+    let mut files = Vec::new(alloc);
+    files.push(FileIn {
+        name: Bytes::of(alloc, b"v")?,
+        bytes: Bytes::of(alloc, bytes)?,
+    })?;
+    let mut stage = MemoryStage::new(alloc, &files, b"", failing)?;
+    let slot = Slot::new(0).ok_or("no slot")?;
+    stage.bind(slot, "v")?;
+    Ok((stage, slot))
+}
+
+/// A buffer of so many zeros.
+fn zeros(alloc: Global, len: usize) -> Result<Vec<u8>, AllocError>
+    ensures { IfOk result (λ buffer. vec_len buffer ≡ len) }
+{
+    vec![in alloc; 0; len]
+}
+
+/// A read of a track that there is.
+fn read_of<T: Stage>(
+    layer: &mut Layer<Ckd>,
+    stage: &mut T,
+    number: u32,
+    out: &mut [u8],
+) -> Result<Held, LayerFault>
+    requires whole { layer.old.broken ≡ false }
+    requires can_read { CanRead layer.old (seen T.Shows stage.old) }
+    requires room { 65536 ≤ length out.old }
+    ensures whole { layer.new.broken ≡ false }
+    ensures can_read { CanRead layer.new (seen T.Shows stage.new) }
+{
+    if number < layer.layout().geo.tracks() {
+        return layer.read(stage, Track(number), out);
+    }
+    Ok(Held::Below)
+}
+
+#[test]
+fn a_base_is_mounted_and_read(rt: HostRuntime) -> Result<(), Fail> {
+    let alloc = rt.alloc();
+    let bytes = written(alloc, 3152, &[])?;
+    let (mut stage, slot) = stage_of(alloc, &bytes, &[])?;
+    let mut layer: Layer<Ckd> = match Layer::mount(
+        alloc,
+        &mut stage,
+        slot,
+        Roles::Base,
+        FORMAT_LIMIT,
+    ) {
+        Ok(layer) => layer,
+        Err(_) => return Err(Fail::new("not mounted")),
+    };
+    assert_eq!(rt; stage.ops().len(), 1);
+    assert_eq!(rt; layer.cached(0), false);
+    assert_eq!(rt; layer.broken(), false);
+    assert_eq!(rt; layer.count(&mut stage), Ok(2000));
+    let mut room = zeros(alloc, 65536)?;
+    let out = room.as_mut_slice();
+    assert_eq!(rt;
+        read_of(&mut layer, &mut stage, 0, out),
+        Ok(Held::Here { len: 45 })
+    );
+    assert_eq!(rt; out.starts_with(&STORED), true);
+    assert_eq!(rt; layer.cached(0), true);
+    assert_eq!(rt;
+        read_of(&mut layer, &mut stage, 1, out),
+        Ok(Held::Here { len: 37 })
+    );
+    assert_eq!(rt; out.starts_with(&NULL_1), true);
+    assert_eq!(rt; stage.ops().len(), 1);
+    Ok(())
+}
+
+#[test]
+fn a_shadow_has_the_tracks_of_its_tables(rt: HostRuntime) -> Result<(), Fail> {
+    let alloc = rt.alloc();
+    let bytes = written(alloc, 3152, &SHADOW)?;
+    let (mut stage, slot) = stage_of(alloc, &bytes, &[])?;
+    let mut layer: Layer<Ckd> = match Layer::mount(
+        alloc,
+        &mut stage,
+        slot,
+        Roles::Either,
+        FORMAT_LIMIT,
+    ) {
+        Ok(layer) => layer,
+        Err(_) => return Err(Fail::new("not mounted")),
+    };
+    assert_eq!(rt; layer.count(&mut stage), Ok(256));
+    let mut room = zeros(alloc, 65536)?;
+    let out = room.as_mut_slice();
+    assert_eq!(rt;
+        read_of(&mut layer, &mut stage, 0, out),
+        Ok(Held::Here { len: 45 })
+    );
+    assert_eq!(rt; read_of(&mut layer, &mut stage, 256, out), Ok(Held::Below));
+    assert_eq!(rt; out.starts_with(&STORED), true);
+    Ok(())
+}
+
+#[test]
+fn a_fault_of_a_track_is_told(rt: HostRuntime) -> Result<(), Fail> {
+    let alloc = rt.alloc();
+    let bytes = written(alloc, 3152, &[(3106, b"\x01")])?;
+    // The calls before these bind the slot, mount it in six, and look the track up.
+    let (mut stage, slot) = stage_of(alloc, &bytes, &[9])?;
+    let mut layer: Layer<Ckd> = match Layer::mount(
+        alloc,
+        &mut stage,
+        slot,
+        Roles::Base,
+        FORMAT_LIMIT,
+    ) {
+        Ok(layer) => layer,
+        Err(_) => return Err(Fail::new("not mounted")),
+    };
+    let mut room = zeros(alloc, 65536)?;
+    let out = room.as_mut_slice();
+    assert_eq!(rt;
+        read_of(&mut layer, &mut stage, 0, out),
+        Err(LayerFault::ReadFault)
+    );
+    assert_eq!(rt; layer.cached(0), true);
+    let fault = TrackFault::WrongTrack { cyl: 1, head: 0 };
+    assert_eq!(rt;
+        read_of(&mut layer, &mut stage, 0, out),
+        Err(LayerFault::Track(fault))
+    );
+    Ok(())
+}
+
+/// Why a base of so many bytes, with more put into it, isn't mounted where the calls of these numbers fail.
+fn refusal_of(
+    alloc: Global,
+    len: usize,
+    more: &[Patch],
+    failing: &[u64],
+) -> Result<Option<OpenFault>, Fail> {
+    let bytes = written(alloc, len, more)?;
+    let (mut stage, slot) = stage_of(alloc, &bytes, failing)?;
+    let mounted: Result<Layer<Ckd>, OpenFault> = Layer::mount(
+        alloc,
+        &mut stage,
+        slot,
+        Roles::Base,
+        FORMAT_LIMIT,
+    );
+    match mounted {
+        Ok(_) => Ok(None),
+        Err(fault) => Ok(Some(fault)),
+    }
+}
+
+#[test]
+fn each_cause_is_told(rt: HostRuntime) -> Result<(), Fail> {
+    let alloc = rt.alloc();
+    let other = OpenFault::Header {
+        slot: 0,
+        fault: HeaderFault::NotCckd { id: *b"CKD_S370" },
+    };
+    assert_eq!(rt; refusal_of(alloc, 3152, &SHADOW, &[])?, Some(other));
+    let far = OpenFault::Scan {
+        slot: 0,
+        fault: Misfit::BadTable { group: 1, pos: 255 },
+    };
+    assert_eq!(rt;
+        refusal_of(alloc, 3152, &[(1028, b"\xff")], &[])?,
+        Some(far)
+    );
+    let refused = [
+        (2, Some(OpenFault::SyncFault)),
+        (3, Some(OpenFault::ReadFault)),
+        (4, Some(OpenFault::ReadFault)),
+        (5, Some(OpenFault::ReadFault)),
+        (6, Some(OpenFault::ReadFault)),
+        (7, Some(OpenFault::ReadFault)),
+        (8, None),
+    ];
+    for (call, want) in refused {
+        assert_eq!(rt; refusal_of(alloc, 3152, &[], &[call])?, want, "at {call}");
+    }
+    Ok(())
+}
