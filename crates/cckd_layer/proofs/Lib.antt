@@ -26,3 +26,4 @@ pub mod SpanLemmas
 pub mod StageLemmas
 pub mod StagedLemmas
 pub mod StandLemmas
+pub mod WritesLemmas

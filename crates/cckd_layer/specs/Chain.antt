@@ -9,7 +9,9 @@ use Rattle.cckd_shelf.specs.Events.{Event}
 use Rattle.cckd_space.specs.declared.piece.Piece.{Piece}
 use Rattle.cckd_space.specs.declared.piece.Totals.{Totals}
 use Rattle.cckd_space.specs.Pieces.{is_roomy, is_roomy_from}
+use Rattle.cckd_image.specs.declared.header.ImageHeader.{ImageHeader}
 use Rattle.cckd_layer.specs.Changes.{IsChained}
+use Rattle.cckd_layer.specs.Marks.{SpellsSecond}
 
 -- what a free space begins with: the place of the next one, and its own length
 abbrev pub link_bytes : Order → ℕ → ℕ → List ℕ
@@ -54,3 +56,18 @@ closed_second t c = record c {
 abbrev pub IsClosing : List Event → ℕ → List Piece → ℕ → List ℕ → List ℕ → Type 0
 IsClosing events slot ps size bytes file =
     (was : List ℕ) × IsChained events slot ps size was × ((file ≡ was) ⊎ (file ≡ overlaid was 512 bytes))
+
+-- the same with the bytes of a second header that says this
+abbrev pub IsClosingAs : List Event → ℕ → List Piece → ℕ → CckdHeader → List ℕ → Type 0
+IsClosingAs events slot ps size c file = (bytes : List ℕ) × SpellsSecond bytes c × IsClosing events slot ps size bytes file
+
+-- a file with all links and with this second header
+abbrev pub IsClosedFrom : Order → List Piece → CckdHeader → List ℕ → List ℕ → Type 0
+IsClosedFrom order ps c old new = (bytes : List ℕ) × SpellsSecond bytes c × (new ≡ overlaid (chained order (roomy_from 0 ps) old) 512 bytes)
+
+-- the headers of an image once it is opened, and once it is closed
+abbrev pub opened_header : ImageHeader → ImageHeader
+opened_header h = record h { cckd = opened_second h.cckd }
+
+abbrev pub closed_header : Totals → ImageHeader → ImageHeader
+closed_header t h = record h { cckd = closed_second t h.cckd }

@@ -1,5 +1,6 @@
 -- What holds of a layer and its slot between calls.
 use Rattle.std.specs.Prelude.{ℕ, ◌≡◌, Bool, true, List, []}
+use Rattle.std.specs.List.Sorted.{IsStrictlyIncreasing}
 use Rattle.cckd_shelf.specs.Seen.{Seen, Tells}
 use Rattle.cckd_shelf.specs.World.{World, IsSure, file_of}
 use Rattle.cckd_shelf.specs.Outcomes.{EachOutcome}
@@ -7,9 +8,15 @@ use Rattle.cckd_base.specs.declared.geometry.Layout.{Layout}
 use Rattle.cckd_base.specs.declared.space.Extent.{Extent}
 use Rattle.cckd_space.specs.Plan.{Plan}
 use Rattle.cckd_tables.specs.Staging.{Stages}
+use Rattle.cckd_tables.specs.Commit.{staged_tracks, staged_groups}
 use Rattle.cckd_tables.specs.Tables.{TableView, AreOf}
 use Rattle.cckd_layer.specs.Sits.{IsMarked, Sits}
 use Rattle.cckd_layer.specs.Current.{Current}
+
+-- what is staged stands in the order of tracks and groups, each once
+pub record AreRising (s : Stages) : Type 0 where
+  pub tracks : IsStrictlyIncreasing (staged_tracks s.entries)
+  pub groups : IsStrictlyIncreasing (staged_groups s.words)
 
 -- nothing is staged
 abbrev pub nothing_staged : Stages

@@ -1,13 +1,11 @@
 //! The commit of a layer: what is staged is written into its file, and settled in its pieces.
-ghost use Rattle.std.specs.Prelude.{◌≡◌, ◌≤◌, Err, length, map, take, OnOk, IfErr};
+ghost use Rattle.std.specs.Prelude.{◌≡◌, ◌≤◌, Err, length, take, OnOk, IfErr};
 ghost use Rattle.cckd_shelf.specs.Seen.{seen, Stays};
 ghost use Rattle.cckd_shelf.specs.Frame.{OnlyIn};
-ghost use Rattle.cckd_space.specs.Pieces.{merged, released};
-ghost use Rattle.cckd_space.specs.Plan.{Becomes, IsSound};
+ghost use Rattle.cckd_space.specs.Plan.{IsSound};
 ghost use Rattle.cckd_tables.specs.Device.{CountsDevice};
-ghost use Rattle.cckd_layer.specs.Acts.{committed_pieces};
 ghost use Rattle.cckd_layer.specs.Mounted.{CanRead};
-ghost use Rattle.cckd_layer.specs.Writes.{KeepsMap, StopsWithin, IsCommitted, failed_by};
+ghost use Rattle.cckd_layer.specs.Writes.{KeepsMap, StopsWithin, SettlesCommit, IsCommitted, failed_by};
 
 use crate::layer::Layer;
 use crate::settling::settle_staged;
@@ -56,12 +54,24 @@ fn copy_words(from: &[StagedWord], into: &mut [StagedWord]) -> usize
 
 /// Frees what was Pending, settles what was staged, and retires what that replaced.
 fn settle_commit(space: &mut Space, entries: &[StagedEntry], words: &[StagedWord])
-    ensures becomes { Becomes space.old space.new (committed_pieces (record { entries = entries.now; words = words.now }) (merged (map released space.old.pieces))) space.old.size }
+    ensures settles { SettlesCommit (record { entries = entries.now; words = words.now }) space.old space.new }
     ensures spent { space.old.spare ≤ space.new.spare }
     ensures sound { IsSound space.new }
 {
     space.release_all();
     settle_staged(space, entries, words);
+}
+
+impl<U> Layer<U> {
+    /// A call failed. Where it was none that reads, nothing else may be called.
+    pub(crate) fn fail(&mut self, fault: Device)
+        ensures { self.new ≡ failed_by fault self.old }
+    {
+        match fault {
+            Device::Read => {}
+            Device::Write | Device::Sync => self.broken = true,
+        }
+    }
 }
 
 impl<U: Unit> Layer<U> {
@@ -87,9 +97,8 @@ impl<U: Unit> Layer<U> {
                 self.hardened = false;
                 Ok(())
             }
-            Err(Device::Read) => Err(Device::Read),
             Err(fault) => {
-                self.broken = true;
+                self.fail(fault);
                 Err(fault)
             }
         }

@@ -7,14 +7,44 @@ ghost use Rattle.cckd_shelf.specs.Frame.{OnlyIn};
 ghost use Rattle.cckd_shelf.specs.Stops.{StopsLeave};
 ghost use Rattle.cckd_tables.specs.Device.{CountsDevice};
 ghost use Rattle.cckd_layer.specs.Changes.{IsRemarked};
+ghost use Rattle.cckd_layer.specs.Chain.{opened_header, closed_header};
 ghost use Rattle.cckd_layer.specs.Marks.{SpellsSecond, MakesSecond, CalledTwice};
 
 use cckd_image::ImageHeader;
 use cckd_shelf::{Shelf, Slot};
+use cckd_space::Totals;
 use cckd_tables::Device;
 
 /// Where the second header stands in a file.
 const SECOND_AT: u64 = 512;
+
+/// The option bit of an image that was opened and not closed.
+const OPENED: u8 = 128;
+
+/// The headers once the image is opened: option bit 128 is on.
+pub fn open_header(header: &ImageHeader) -> ImageHeader
+    ensures { result ≡ opened_header header.now }
+{
+    let mut opened = *header;
+    opened.cckd.options = header.cckd.options % OPENED + OPENED;
+    opened
+}
+
+/// The headers once the image is closed with these totals.
+pub fn close_header(header: &ImageHeader, totals: Totals) -> ImageHeader
+    ensures { result ≡ closed_header totals header.now }
+{
+    let mut closed = *header;
+    closed.cckd.options = header.cckd.options % OPENED;
+    closed.cckd.size = totals.size;
+    closed.cckd.used = totals.used;
+    closed.cckd.free = totals.free;
+    closed.cckd.free_total = totals.free_total;
+    closed.cckd.free_largest = totals.free_largest;
+    closed.cckd.free_number = totals.free_number;
+    closed.cckd.free_imbed = totals.free_imbed;
+    closed
+}
 
 /// The bytes that spell the second header.
 pub fn second_header(header: &ImageHeader) -> [u8; 512]
