@@ -26,4 +26,5 @@ pub mod SpanLemmas
 pub mod StageLemmas
 pub mod StagedLemmas
 pub mod StandLemmas
+pub mod StepLemmas
 pub mod WritesLemmas

@@ -1,11 +1,12 @@
 -- What holds of a layer once what was staged is committed.
-use Rattle.std.proofs.Common.{◌≡◌, ◌<◌, ◌≤◌, ℕ, List, [], map, Option, refl, sym, ◌∙◌, ap, subst, inl, inr}
+use Rattle.std.proofs.Common.{◌≡◌, ◌<◌, ◌≤◌, ℕ, List, [], map, true, Result, Ok, Err, OnOk, OnErr, refl, sym, ◌∙◌, ap, subst, inl, inr}
 use Rattle.cckd_shelf.specs.Events.{Event}
 use Rattle.cckd_shelf.specs.World.{World, IsSure, file_of, after_sync}
 use Rattle.cckd_shelf.specs.Outcomes.{EachOutcome, AtEach}
-use Rattle.cckd_shelf.specs.Seen.{Seen, Tells, Stays}
+use Rattle.cckd_shelf.specs.Seen.{Seen, Tells, Stays, Makes}
 use Rattle.cckd_shelf.specs.Stops.{StopsLeave}
-use Rattle.cckd_shelf.proofs.MomentLemmas.{weaker, kept_at}
+use Rattle.cckd_shelf.proofs.MomentLemmas.{weaker, synced, joins, at_end}
+use Rattle.cckd_shelf.specs.declared.fault.Failed.{Failed}
 use Rattle.cckd_base.specs.declared.geometry.Layout.{Layout}
 use Rattle.cckd_base.specs.declared.entry.L2Entry.{L2Entry}
 use Rattle.cckd_base.specs.Geometry.{track_count}
@@ -21,7 +22,7 @@ use Rattle.cckd_tables.proofs.CommittedLemmas.{order_of}
 use Rattle.cckd_layer.specs.Held.{NullBytes, Tracks, Later, AreSame, LiesWithin, Keeps, Holds, held}
 use Rattle.cckd_layer.specs.Stands.{LayerView, Stands, AreRising, nothing_staged}
 use Rattle.cckd_layer.specs.Mounted.{LayerState, kept_view}
-use Rattle.cckd_layer.specs.Writes.{Agrees, AgreesAgain, map_of, entry_now, IsCommitted, StopsWithin}
+use Rattle.cckd_layer.specs.Writes.{Agrees, AgreesAgain, map_of, entry_now, IsCommitted, IsReleased, StopsWithin, StopHolds}
 use Rattle.cckd_layer.proofs.StandLemmas.{stands_sits, stands_synced, stands_released}
 use Rattle.cckd_layer.proofs.CommitLemmas.{can_commit}
 use Rattle.cckd_layer.proofs.CommittedLemmas.{stands_committed, committed_holds, commit_keeps}
@@ -92,3 +93,52 @@ commit_within null s old new t stopped d later told a within each =
     weaker (EachOutcome s.slot may) (EachOutcome s.slot (Keeps null l d later)) old.world.events new.world.events
     (λ es h f o. commit_keeps null d later (kept_view s) s.slot old.world (rising_of s.tables t) a.stands within each f (h f o))
     (stopped (commits_of s old t told a) told)
+
+-- ---- a sync that makes it stay
+
+-- it agrees again, where nothing was staged
+pub released_agrees : (null : NullBytes) (s next : LayerState) (old new : Seen) → s.tables.stages ≡ nothing_staged → new.world ≡ after_sync s.slot old.world → IsReleased s next → Agrees s old.world
+    → AgreesAgain null s next old new
+released_agrees null s next old new empty made c a =
+    let k = stands_synced (kept_view s) s.slot old.world new.world made a.stands in
+    let done = stands_released (kept_view s) next.plan s.slot new.world c.pieces c.sound.laid k.1 k.0 in
+    let file : file_of new.world s.slot ≡ file_of old.world s.slot = ap (λ (w : World). file_of w s.slot) made in
+    let slot : next.slot ≡ s.slot = ap (λ (x : LayerState). x.slot) c.rest in
+    let tables : next.tables ≡ s.tables = ap (λ (x : LayerState). x.tables) c.rest in
+    let view : kept_view next ≡ record (kept_view s) { plan = next.plan } = ap kept_view c.rest in
+    let now : map_of null next new ≡ map_of null s old =
+    ap (λ (x : LayerState). map_of null x new) c.rest ∙ ap (λ (f : List ℕ). held null s.tables.layout s.tables.stages f) file in
+    let entry : entry_now next new ≡ entry_now s old =
+    ap (λ (x : LayerState). entry_now x new) c.rest ∙ ap (λ (f : List ℕ). new_entry s.tables.layout s.tables.stages f) file in
+    record {
+      agrees = record {
+        stands = subst (λ (n : ℕ). Stands (kept_view next) n new.world) (sym slot) (subst (λ (x : LayerView). Stands x s.slot new.world) (sym view) done);
+        are = subst (λ (t : TableView). AreOf t (file_of new.world next.slot)) (sym tables)
+            (subst (λ (n : ℕ). AreOf s.tables (file_of new.world n)) (sym slot) (subst (λ (f : List ℕ). AreOf s.tables f) (sym file) a.are));
+        empty = λ h. ap (λ (t : TableView). t.stages) tables ∙ empty;
+        alone = λ h. subst (λ (n : ℕ). EachOutcome n (λ f. f ≡ file_of new.world n) new.world.events) (sym slot) k.1;
+      };
+      entries = λ t low. ap (λ (f : ℕ → L2Entry). f t) entry;
+      same = record { each = λ t low. ap (λ (m : Tracks). m t) now };
+    }
+
+-- a stop leaves exactly the layer's map, where nothing is staged and the file is alone
+pub alone_holds : (null : NullBytes) (s : LayerState) (old new : Seen) → s.tables.stages ≡ nothing_staged → Stands (kept_view s) s.slot new.world → file_of new.world s.slot ≡ file_of old.world s.slot
+    → EachOutcome s.slot (λ f. f ≡ file_of new.world s.slot) new.world.events → EachOutcome s.slot (Holds null s.tables.layout (map_of null s old)) new.world.events
+alone_holds null s old new empty stands file alone f o = record {
+  whole = (stands.each f o).whole;
+  same = record {
+    each = λ t low.
+        ap (λ (x : List ℕ). held null s.tables.layout nothing_staged x t) (alone f o ∙ file)
+        ∙ ap (λ (st : Stages). held null s.tables.layout st (file_of old.world s.slot) t) (sym empty);
+  };
+}
+
+pub synced_holds : (null : NullBytes) (s : LayerState) (old new : Seen) → s.tables.stages ≡ nothing_staged → new.world ≡ after_sync s.slot old.world → StopHolds null s old new
+synced_holds null s old new empty made told a =
+    let k = stands_synced (kept_view s) s.slot old.world new.world made a.stands in
+    alone_holds null s old new empty k.0 (ap (λ (w : World). file_of w s.slot) made) k.1
+
+pub sync_within : (null : NullBytes) (s : LayerState) (old new : Seen) (result : Result (Unit {0}) Failed) → OnOk result (Makes (after_sync s.slot) old new) → OnErr result (Stays old new) → StopsWithin null s old new
+sync_within null s old new result done kept d later told a within each =
+    synced (Keeps null s.tables.layout d later) s.slot s.slot old new result done kept told each

@@ -1,5 +1,8 @@
 -- What writing makes of a layer, and what a stop leaves of it.
-use Rattle.std.specs.Prelude.{ℕ, ◌≡◌, ◌<◌, true, false, List, map}
+use Rattle.std.specs.Prelude.{ℕ, ◌≡◌, ◌<◌, Bool, true, false, List, map, Result, Ok, Err}
+use Rattle.cckd_shelf.specs.declared.fault.Faults.{Faults}
+use Rattle.cckd_shelf.specs.declared.fault.Kind.TheVariants.{Reads, Writes, Syncs}
+use Rattle.cckd_shelf.specs.Faults.{Raises}
 use Rattle.cckd_shelf.specs.Seen.{Seen, Tells}
 use Rattle.cckd_shelf.specs.World.{World, file_of}
 use Rattle.cckd_shelf.specs.Outcomes.{EachOutcome, AtEach}
@@ -83,11 +86,37 @@ fault_of device.Read = fault.ReadFault
 fault_of device.Write = fault.WriteFault
 fault_of device.Sync = fault.SyncFault
 
--- a layer whose call ended so: faults of writing and of syncing break it, and all else leaves it
-abbrev pub broken_by : LayerFault → LayerState → LayerState
-broken_by fault.WriteFault s = record s { broken = true }
-broken_by fault.SyncFault s = record s { broken = true }
-broken_by _ s = s
+-- a call that writes or syncs and fails breaks the layer
+abbrev pub is_broken_by : {A : Type 0} → Result A LayerFault → Bool
+is_broken_by (Err fault.WriteFault) = true
+is_broken_by (Err fault.SyncFault) = true
+is_broken_by _ = false
+
+-- a fault of the outside raised the count of its kind and no other, and all else left the counts
+abbrev pub CountsLayer : {A : Type 0} → Result A LayerFault → Faults → Faults → Type 0
+CountsLayer (Err fault.ReadFault) old new = Raises Reads old new
+CountsLayer (Err fault.WriteFault) old new = Raises Writes old new
+CountsLayer (Err fault.SyncFault) old new = Raises Syncs old new
+CountsLayer _ old new = new ≡ old
+
+-- a fault of the outside
+abbrev pub IsOutside : LayerFault → Type 0
+IsOutside (fault.Track why) = ⊥
+IsOutside (fault.Full full) = ⊥
+IsOutside _ = Unit {0}
+
+-- the same slot, headers and layout, and the same limit
+pub record IsSameLayer (old new : LayerState) : Type 0 where
+  pub slot : new.slot ≡ old.slot
+  pub header : new.header ≡ old.header
+  pub layout : new.tables.layout ≡ old.tables.layout
+  pub limit : new.plan.limit ≡ old.plan.limit
+
+-- what was Pending is Free, and all that was written is on the disk for good
+pub record IsReleased (old new : LayerState) : Type 0 where
+  pub pieces : Becomes old.plan new.plan (merged (map released old.plan.pieces)) old.plan.size
+  pub sound : IsSound new.plan
+  pub rest : new ≡ record old { plan = new.plan; hardened = true }
 
 -- a stop leaves what the layer has, and nothing else, where it agreed with its file before
 abbrev pub StopHolds : NullBytes → LayerState → Seen → Seen → Type 0

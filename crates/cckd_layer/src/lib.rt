@@ -5,6 +5,7 @@ mod chaining;
 mod closing;
 mod committing;
 mod counting;
+mod hardening;
 mod held;
 mod laws;
 mod layer;
