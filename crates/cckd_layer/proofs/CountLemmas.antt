@@ -1,5 +1,5 @@
 -- The number of tracks that a layer has, one track more at a time.
-use Rattle.std.proofs.Common.{◌≡◌, ◌≢◌, ◌⊎◌, ℕ, zero, suc, ◌+◌, ◌/◌, ◌*◌, ◌<◌, ◌≤◌, min, ◌==◌, Bool, true, false, cond, List, [], ◌∷◌, Option, Some, None, refl, sym, ◌∙◌, ap, subst, inl, inr, arith, add-one}
+use Rattle.std.proofs.Common.{◌≡◌, ◌≢◌, ◌⊎◌, ℕ, suc, ◌+◌, ◌/◌, ◌*◌, ◌≤◌, min, ◌==◌, Bool, true, false, cond, List, Option, Some, None, refl, sym, ◌∙◌, ap, subst, inl, inr, arith}
 use Rattle.std.specs.Option.{is_some}
 use Rattle.cckd_base.specs.Numbers.{bytes_at}
 use Rattle.std.specs.Prelude.{slice_index}
@@ -9,7 +9,7 @@ use Rattle.cckd_base.specs.declared.entry.L2Entry.{L2Entry}
 use Rattle.cckd_base.specs.Entry.{see_parent, bytes_by_entry}
 use Rattle.cckd_base.specs.Image.{IsPlace}
 use Rattle.cckd_base.proofs.PlaceLemmas.{place_or_not}
-use Rattle.cckd_tables.specs.Staging.{Stages, IsStaged, entry_for, new_entry}
+use Rattle.cckd_tables.specs.Staging.{Stages, entry_for, new_entry}
 use Rattle.cckd_tables.specs.Tables.{TableView}
 use Rattle.cckd_tables.specs.Cached.{IsCached}
 use Rattle.cckd_tables.specs.Looking.{NeedsTable, NeedsNoTable, with_cached}

@@ -1,9 +1,13 @@
 -- What the steps of a mounting say one after another: of the file, of the counts, and of why there is no layer.
-use Rattle.std.proofs.Common.{◌≡◌, ℕ, List, length, Option, Some, None, Result, Ok, Err, IfErr, OnOk, OnErr, refl, sym, ◌∙◌, ap, subst}
+use Rattle.std.proofs.Common.{◌≡◌, ℕ, List, length, Some, None, Result, Ok, Err, IfErr, sym, ◌∙◌, ap, subst}
 use Rattle.cckd_shelf.specs.declared.fault.Faults.{Faults}
 use Rattle.cckd_shelf.specs.Frame.{SparesOthers, OnlyIn}
 use Rattle.cckd_shelf.specs.World.{World, IsSure, file_of, after_sync}
-use Rattle.cckd_shelf.specs.Seen.{Seen, Tells, Stays, Makes, Fails}
+use Rattle.cckd_shelf.specs.Events.{Synced}
+use Rattle.cckd_shelf.specs.Outcomes.{EachOutcome, AtEach}
+use Rattle.cckd_shelf.proofs.MomentLemmas.{next_at, kept_at}
+use Rattle.cckd_shelf.proofs.OutcomeLemmas.{sync_step}
+use Rattle.cckd_shelf.specs.Seen.{Seen, Tells, Stays, Makes}
 use Rattle.cckd_shelf.proofs.FrameLemmas.{spares_sync, only_stays}
 use Rattle.cckd_base.specs.declared.geometry.Layout.{Layout}
 use Rattle.cckd_base.specs.declared.open_fault.OpenFault.{OpenFault}
@@ -157,3 +161,21 @@ opening_spares {A} slot (Err open_fault.ReadFault) a b h = sync_spares slot a b 
 opening_spares {A} slot (Err open_fault.WriteFault) a b h = sync_spares slot a b h
 opening_spares {A} slot (Err open_fault.SyncFault) a b h = only_stays slot a b h
 opening_spares {A} slot (Err open_fault.Memory) a b h = sync_spares slot a b h
+
+sync_keeps : (P : List ℕ → Type 0) (slot other : ℕ) (a b : Seen) → Makes (after_sync slot) a b → Tells a → EachOutcome other P a.world.events
+    → AtEach a.world.events b.world.events (EachOutcome other P)
+sync_keeps P slot other a b made told each =
+    next_at (EachOutcome other P) a.world b.world (Synced slot) (ap (λ (w : World). w.events) (made told)) each (sync_step P other slot a.world.events each)
+
+-- For callers: what a stop left of a slot before a mounting is all that it leaves at any moment of it.
+pub opening_keeps : {A : Type 0} (P : List ℕ → Type 0) (slot other : ℕ) (r : Result A OpenFault) (a b : Seen) → OnlySyncs slot r a b → Tells a → EachOutcome other P a.world.events
+    → AtEach a.world.events b.world.events (EachOutcome other P)
+opening_keeps {A} P slot other (Ok layer) a b h told each = sync_keeps P slot other a b h told each
+opening_keeps {A} P slot other (Err (open_fault.Header at fault)) a b h told each = sync_keeps P slot other a b h told each
+opening_keeps {A} P slot other (Err (open_fault.Scan at fault)) a b h told each = sync_keeps P slot other a b h told each
+opening_keeps {A} P slot other (Err (open_fault.Gap at)) a b h told each = sync_keeps P slot other a b h told each
+opening_keeps {A} P slot other (Err (open_fault.Mismatch at base found)) a b h told each = sync_keeps P slot other a b h told each
+opening_keeps {A} P slot other (Err open_fault.ReadFault) a b h told each = sync_keeps P slot other a b h told each
+opening_keeps {A} P slot other (Err open_fault.WriteFault) a b h told each = sync_keeps P slot other a b h told each
+opening_keeps {A} P slot other (Err open_fault.SyncFault) a b h told each = kept_at (EachOutcome other P) a.world b.world (h told) each
+opening_keeps {A} P slot other (Err open_fault.Memory) a b h told each = sync_keeps P slot other a b h told each

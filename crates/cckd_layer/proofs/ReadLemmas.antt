@@ -6,7 +6,7 @@ use Rattle.cckd_base.specs.declared.fault.TrackFault.{TrackFault}
 use Rattle.cckd_base.specs.declared.layer_fault.LayerFault.{LayerFault}
 use Rattle.cckd_layer.specs.declared.held.Held.{Held}
 use Rattle.cckd_layer.specs.declared.held.Held.TheVariants.{Here, Below}
-use Rattle.cckd_layer.specs.Reads.{Answers, held_of, filled_with, fault_in, CheckRefuses, IsReadRefusal}
+use Rattle.cckd_layer.specs.Reads.{Answers, fault_in, CheckRefuses, IsReadRefusal}
 
 len_of : Held → ℕ
 len_of (Here len) = len

@@ -3,13 +3,13 @@ use Rattle.std.proofs.Common.{◌≡◌, ℕ, Bool, true, false, ◌||◌, not, 
 use Rattle.std.specs.Prelude.{nat_lt}
 use Rattle.std.specs.List.{list_any}
 use Rattle.std.specs.Str.{bytes_eq}
-use Rattle.std.proofs.Common.{◌⊎◌, inl, inr}
+use Rattle.std.proofs.Common.{inl, inr}
 use Rattle.std.proofs.lemmas.Bool.{false≢true, or_from, or_left, or_cases}
 use Rattle.std.proofs.Math.Bool.{or-false}
 use Rattle.cckd_base.specs.declared.geometry.Layout.{Layout}
 use Rattle.cckd_base.specs.declared.fault.HeaderFault.{HeaderFault}
 use Rattle.cckd_base.specs.declared.fault.HeaderFault.TheVariants.{NotCckd}
-use Rattle.cckd_base.specs.Header.{base_identifier, shadow_identifier, identifier, headers_of, Judged, judged_in, geometry_cases, count_cases, format_cases, first_case, header_fault, layout_of}
+use Rattle.cckd_base.specs.Header.{base_identifier, shadow_identifier, identifier, headers_of, judged_in, geometry_cases, count_cases, format_cases, first_case, header_fault, layout_of}
 use Rattle.cckd_base.specs.Image.{IsHeaded}
 use Rattle.cckd_base.proofs.HeaderLemmas.{faultless}
 use Rattle.cckd_image.specs.declared.roles.Roles.{Roles}

@@ -6,7 +6,7 @@ ghost use Rattle.cckd_base.specs.Geometry.{track_count, IsLayout, IsNullFormat};
 ghost use Rattle.cckd_base.specs.Entry.{bytes_by_entry};
 ghost use Rattle.cckd_base.specs.Misfit.{entry_misfit};
 ghost use Rattle.cckd_tables.specs.Cached.{IsCached};
-ghost use Rattle.cckd_tables.specs.Looking.{NeedsTable, IsEntryOf};
+ghost use Rattle.cckd_tables.specs.Looking.{NeedsTable, IsEntryOf, with_cached};
 ghost use Rattle.cckd_layer.specs.Mounted.{ReadsFrom};
 ghost use Rattle.cckd_layer.specs.Reads.{OfFile, Answers, fault_in, CheckRefuses, IsAccepted, IsReadFault, IsReadRefusal, OnlyReads, LooksUp, IsAtHand, LooksOnce};
 
@@ -154,7 +154,7 @@ impl<U: Unit> Layer<U> {
         ensures refusal { IfErr result (λ why. why ≡ LayerFault.ReadFault) }
 
         // What it does beside.
-        ensures rest { self.new ≡ with_tables self.old self.new.tables }
+        ensures rest { self.new ≡ with_tables self.old (with_cached self.old.tables self.new.tables.cached) }
         ensures tables { LooksOnce t.0 result self.old.tables self.new.tables (seen T.Shows stage.old) (seen T.Shows stage.new) }
         ensures can_read { CanRead self.new (seen T.Shows stage.new) }
         ensures reads { OnlyReads result (seen T.Shows stage.old) (seen T.Shows stage.new) }
@@ -191,7 +191,7 @@ impl<U: Unit> Layer<U> {
         ensures kind { IfErr result IsReadFault }
 
         // What it does beside.
-        ensures rest { self.new ≡ with_tables self.old self.new.tables }
+        ensures rest { self.new ≡ with_tables self.old (with_cached self.old.tables self.new.tables.cached) }
         ensures tables { LooksOnce t.0 result self.old.tables self.new.tables (seen T.Shows stage.old) (seen T.Shows stage.new) }
         ensures can_read { CanRead self.new (seen T.Shows stage.new) }
         ensures reads { OnlyReads result (seen T.Shows stage.old) (seen T.Shows stage.new) }

@@ -1,12 +1,11 @@
 use Rattle.std.proofs.Common.{◌≡◌, ◌/◌, ◌∙◌, ℕ, List, ◌==◌, sym, subst, ap, arith}
 use Rattle.cckd_base.specs.Entry.{see_parent}
-use Rattle.cckd_base.specs.declared.entry.L2Entry.{L2Entry}
 use Rattle.cckd_shelf.specs.World.{World, IsSure, file_of}
 use Rattle.cckd_shelf.specs.Seen.{seen}
 use Rattle.cckd_tables.specs.Tables.{TableView}
 use Rattle.cckd_tables.specs.Staging.{new_entry}
 use Rattle.cckd_layer.specs.Held.{held}
-use Rattle.cckd_layer.proofs.CountLemmas.{counts_more, held_counts, at_most, one_if, one_unless}
+use Rattle.cckd_layer.proofs.CountLemmas.{counts_more, held_counts, at_most}
 use Rattle.cckd_layer.proofs.counting.count_between.Goals as goal
 
 pub loop-number-preserved : goal.loop-number-preserved

@@ -1,4 +1,4 @@
-use Rattle.std.proofs.Common.{◌≡◌, List, length, sym, ap, subst}
+use Rattle.std.proofs.Common.{◌≡◌, length, sym, subst}
 use Rattle.cckd_shelf.specs.World.{World, IsSure, file_of}
 use Rattle.cckd_shelf.specs.Seen.{seen}
 use Rattle.cckd_base.specs.Image.{IsHeaded}

@@ -1,4 +1,4 @@
-use Rattle.std.proofs.Common.{◌≡◌, ◌≤◌, ◌∙◌, true, false, List, length, refl, sym, ap, subst}
+use Rattle.std.proofs.Common.{◌≤◌, ◌∙◌, true, false, List, length, refl, sym, ap, subst}
 use Rattle.cckd_base.specs.declared.space.Extent.{Extent}
 use Rattle.cckd_base.specs.Geometry.{area_of}
 use Rattle.cckd_base.proofs.HeaderLemmas.{headed_area}
