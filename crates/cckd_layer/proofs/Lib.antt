@@ -1,6 +1,8 @@
 pub mod AccountLemmas
 pub mod ActLemmas
+pub mod CallerLemmas
 pub mod ChainLemmas
+pub mod ClaimLemmas
 pub mod CloseLemmas
 pub mod ClosedLemmas
 pub mod CommitLemmas
@@ -10,6 +12,7 @@ pub mod CurrentLemmas
 pub mod FillLemmas
 pub mod FoundLemmas
 pub mod HeadLemmas
+pub mod MarkLemmas
 pub mod MountLemmas
 pub mod NamedLemmas
 pub mod NearLemmas
@@ -19,6 +22,7 @@ pub mod PutLemmas
 pub mod ReadLemmas
 pub mod RemarkLemmas
 pub mod RemarkedLemmas
+pub mod ReservedLemmas
 pub mod RoleLemmas
 pub mod SettledLemmas
 pub mod SpaceLemmas

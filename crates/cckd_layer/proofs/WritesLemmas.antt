@@ -21,6 +21,7 @@ use Rattle.cckd_tables.proofs.StagedLemmas.{same_entry}
 use Rattle.cckd_tables.proofs.CommittedLemmas.{order_of}
 use Rattle.cckd_layer.specs.Held.{NullBytes, Tracks, Later, AreSame, LiesWithin, Keeps, Holds, held}
 use Rattle.cckd_layer.specs.Stands.{LayerView, Stands, AreRising, nothing_staged}
+use Rattle.cckd_layer.specs.Marks.{FitsLayout}
 use Rattle.cckd_layer.specs.Mounted.{LayerState, kept_view}
 use Rattle.cckd_layer.specs.Writes.{Agrees, AgreesAgain, map_of, entry_now, IsCommitted, IsReleased, StopsWithin, StopHolds}
 use Rattle.cckd_layer.proofs.StandLemmas.{stands_sits, stands_synced, stands_released}
@@ -75,6 +76,8 @@ committed_agrees null s next old new t a sure each now of c =
         stands = subst (λ (n : ℕ). Stands (kept_view next) n new.world) (sym (slot_committed s next c))
             (subst (λ (x : LayerView). Stands x s.slot new.world) (sym (view_committed s next c)) done);
         are = subst (λ (n : ℕ). AreOf next.tables (file_of new.world n)) (sym (slot_committed s next c)) of;
+        fits = subst (λ (x : LayerState). FitsLayout x.tables.layout x.header.cckd) (sym c.rest)
+            (subst (λ (l : Layout). FitsLayout l s.header.cckd) (sym (ap (λ (x : TableView). x.layout) c.tables.rest)) a.fits);
         empty = λ h. absurd (let soft = ap (λ (x : LayerState). x.hardened) c.rest in cc);
         alone = λ h. absurd (let soft = ap (λ (x : LayerState). x.hardened) c.rest in cc);
       };
@@ -115,6 +118,7 @@ released_agrees null s next old new empty made c a =
         stands = subst (λ (n : ℕ). Stands (kept_view next) n new.world) (sym slot) (subst (λ (x : LayerView). Stands x s.slot new.world) (sym view) done);
         are = subst (λ (t : TableView). AreOf t (file_of new.world next.slot)) (sym tables)
             (subst (λ (n : ℕ). AreOf s.tables (file_of new.world n)) (sym slot) (subst (λ (f : List ℕ). AreOf s.tables f) (sym file) a.are));
+        fits = subst (λ (x : LayerState). FitsLayout x.tables.layout x.header.cckd) (sym c.rest) a.fits;
         empty = λ h. ap (λ (t : TableView). t.stages) tables ∙ empty;
         alone = λ h. subst (λ (n : ℕ). EachOutcome n (λ f. f ≡ file_of new.world n) new.world.events) (sym slot) k.1;
       };

@@ -1,7 +1,9 @@
 //! One image that is written: what holds of its file between calls, and the acts that keep it so.
 #![tactic(auto)]
 
+mod agreeing;
 mod chaining;
+mod claiming;
 mod closing;
 mod committing;
 mod counting;
@@ -11,13 +13,16 @@ mod laws;
 mod layer;
 mod marking;
 mod mounting;
+mod opening;
 mod placing;
 mod reading;
 mod settling;
 mod staging;
 #[cfg(test)]
 mod tests;
+mod writing;
 
+pub use agreeing::layers_agree;
 pub use cckd_base::Layout;
 pub use cckd_shelf::Slot;
 pub use cckd_space::Space;
