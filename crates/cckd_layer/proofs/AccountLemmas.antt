@@ -1,13 +1,12 @@
 -- The pieces stay accounted for by each act.
-use Rattle.std.proofs.Common.{◌≡◌, ◌⊎◌, ℕ, ◌+◌, ◌-◌, ◌<◌, ◌≤◌, ◌&&◌, ◌==◌, nat_lt, Bool, true, false, cond, List, [], ◌∷◌, ◌++◌, map, Option, Some, None, refl, sym, ◌∙◌, ap, subst, inl, inr, arith}
-use Rattle.std.proofs.lemmas.Bool.{cases_eq, cond_both, eq-eqb, ne_eqb, false_from_ne_true}
+use Rattle.std.proofs.Common.{◌≡◌, ◌⊎◌, ℕ, ◌+◌, ◌-◌, ◌<◌, ◌&&◌, ◌==◌, nat_lt, Bool, true, false, List, [], ◌∷◌, ◌++◌, map, Option, Some, None, refl, sym, ◌∙◌, ap, subst, inl, inr, arith}
+use Rattle.std.proofs.lemmas.Bool.{cases_eq, cond_both, eq-eqb, ne_eqb}
 use Rattle.cckd_base.specs.declared.space.Extent.{Extent}
-use Rattle.cckd_base.specs.declared.space.Owner.{Owner}
 use Rattle.cckd_space.specs.declared.piece.Kind.{Kind}
 use Rattle.cckd_space.specs.declared.piece.Kind.TheVariants.{Used, Free, Reserved, Leaving, Pending}
 use Rattle.cckd_space.specs.declared.piece.Piece.{Piece}
 use Rattle.cckd_space.specs.Pieces.{Has, IsLaid, is_free, is_used_at, is_reserved_at, used_kind, reserved_kind, free_kind, first, replaced, settled, left, freed, merged, retired, retired_as, released, released_as, used_piece, reserved_piece, trimmed, used_end, cut, free_run, free_piece, reserved_in, has_room, aligned_up, appended, end_place, piece_end}
-use Rattle.cckd_space.specs.Plan.{first_fit, place_of, reserved_by, with_reserved, IsClear}
+use Rattle.cckd_space.specs.Plan.{place_of, with_reserved}
 use Rattle.cckd_space.proofs.CallerLemmas.{first_has, laid_has, found, has_replaced, has_new, has_map, has_merged, has_trimmed, has_of_replaced, has_of_merged, placed_found, placed_keeps}
 use Rattle.cckd_space.proofs.PlaceLemmas.{placed_clear}
 use Rattle.cckd_space.proofs.SearchLemmas.{used_there, reserved_there}

@@ -1,8 +1,8 @@
 -- For callers: what makes a layer agree with its file, and what they make of what a stop leaves.
-use Rattle.std.proofs.Common.{◌≡◌, ◌⊎◌, ◌<◌, ℕ, List, ◌∷◌, length, Option, Some, refl, sym, ◌∙◌, ap, subst, inl, inr}
+use Rattle.std.proofs.Common.{◌≡◌, ◌⊎◌, ℕ, List, ◌∷◌, length, Option, refl, sym, ◌∙◌, ap, subst, inl, inr}
 use Rattle.cckd_shelf.specs.World.{World, IsSure, file_of, after_sync}
 use Rattle.cckd_shelf.specs.Outcomes.{EachOutcome}
-use Rattle.cckd_shelf.specs.Seen.{Seen, Tells}
+use Rattle.cckd_shelf.specs.Seen.{Seen}
 use Rattle.cckd_shelf.proofs.OutcomeLemmas.{sync_leaves_now}
 use Rattle.cckd_base.specs.declared.geometry.Layout.{Layout}
 use Rattle.cckd_base.specs.Header.{headers_of, header_fault, header_cases, judged_in, level_one_count, level_two_count, header_geometry}
@@ -14,7 +14,7 @@ use Rattle.cckd_image.specs.Image.{identifiers_of, header_of, order_by}
 use Rattle.cckd_layer.specs.Marks.{FitsLayout}
 use Rattle.cckd_image.specs.declared.roles.Roles.{Roles}
 use Rattle.cckd_tables.specs.Tables.{AreOf}
-use Rattle.cckd_layer.specs.Held.{NullBytes, Tracks, Later, IsLater, LiesWithin, Keeps}
+use Rattle.cckd_layer.specs.Held.{NullBytes, Tracks, Later, IsLater, Keeps}
 use Rattle.cckd_layer.specs.Stands.{Stands}
 use Rattle.cckd_layer.specs.Mounted.{LayerState, kept_view, IsFresh, IsOf, CanRead}
 use Rattle.cckd_layer.specs.Writes.{Agrees, AgreesIn}

@@ -1,17 +1,14 @@
 -- The chain of free spaces, link by link.
-use Rattle.std.proofs.Common.{◌≡◌, ◌⊎◌, ℕ, ◌+◌, ◌^◌, ◌<◌, ◌≤◌, ◌&&◌, nat_le, max, Bool, true, false, cond, List, [], ◌∷◌, ◌++◌, length, get_or, Option, Some, None, Result, Ok, Err, refl, sym, ◌∙◌, ap, subst, inl, inr, arith}
+use Rattle.std.proofs.Common.{◌≡◌, ℕ, ◌+◌, ◌<◌, ◌≤◌, ◌&&◌, nat_le, Bool, true, false, cond, List, [], ◌∷◌, length, Option, Some, None, Result, Ok, refl, sym, ◌∙◌, ap, subst, inl, inr, arith}
 use Rattle.std.specs.List.{filter}
 use Rattle.std.specs.Option.{option_map}
 use Rattle.std.specs.Int.{w32}
-use Rattle.std.proofs.lemmas.Bool.{and_parts, leb-true, le-leb, lt-leb, leb-false, cond_both}
+use Rattle.std.proofs.lemmas.Bool.{and_parts, leb-true, le-leb, lt-leb}
 use Rattle.std.proofs.lemmas.List.{length-append}
 use Rattle.cckd_shelf.specs.declared.fault.Failed.{Failed}
-use Rattle.cckd_shelf.specs.declared.fault.Kind.TheVariants.{Writes}
-use Rattle.cckd_shelf.specs.Events.{Event}
-use Rattle.cckd_shelf.specs.World.{World, IsSure, file_of}
-use Rattle.cckd_shelf.specs.Seen.{Seen, Tells, Fails}
-use Rattle.cckd_shelf.specs.Outcomes.{WriteLeaves, IsOutcome, EachOutcome}
-use Rattle.cckd_shelf.specs.Frame.{OnlyIn}
+use Rattle.cckd_shelf.specs.World.{file_of}
+use Rattle.cckd_shelf.specs.Seen.{Seen, Tells}
+use Rattle.cckd_shelf.specs.Outcomes.{WriteLeaves, EachOutcome}
 use Rattle.cckd_shelf.specs.Stops.{StopsLeave}
 use Rattle.cckd_shelf.specs.Files.{overlaid}
 use Rattle.cckd_shelf.proofs.MomentLemmas.{at_once}
@@ -19,15 +16,14 @@ use Rattle.cckd_base.specs.declared.order.Order.{Order}
 use Rattle.cckd_base.specs.declared.order.Order.TheVariants.{Little, Big}
 use Rattle.cckd_base.specs.Numbers.{bytes_of}
 use Rattle.cckd_space.specs.declared.piece.Piece.{Piece}
-use Rattle.cckd_space.specs.Pieces.{Has, IsLaid, is_free, is_roomy, is_roomy_from, first, piece_end}
+use Rattle.cckd_space.specs.Pieces.{Has, IsLaid, is_free, is_roomy, is_roomy_from, first}
 use Rattle.cckd_space.specs.Plan.{free_from}
 use Rattle.cckd_space.proofs.CallerLemmas.{first_has, laid_has}
 use Rattle.cckd_space.proofs.PlaceLemmas.{has_within}
 use Rattle.cckd_tables.specs.Cells.{OneWrite}
-use Rattle.cckd_tables.proofs.TableLoopLemmas.{Went, went_nowhere, went_more, write_others, fails_then, stop_then, file_then}
+use Rattle.cckd_tables.proofs.TableLoopLemmas.{Went, went_nowhere, went_more, stop_then, file_then}
 use Rattle.cckd_layer.specs.Changes.{ChangesFree, IsChained}
 use Rattle.cckd_layer.specs.Chain.{link_bytes, first_place, chained, roomy_from, roomy_pieces}
-use Rattle.cckd_layer.proofs.AccountLemmas.{has_some}
 
 -- ---- the free spaces from a place on
 

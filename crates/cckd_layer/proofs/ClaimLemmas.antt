@@ -1,36 +1,32 @@
 -- Places that are claimed, and new tables that are staged: a layer agrees with its file again.
-use Rattle.std.proofs.Common.{◌≡◌, ◌≢◌, ◌⊎◌, ◌+◌, ◌*◌, ◌/◌, ◌%◌, ◌<◌, ◌≤◌, ℕ, List, ◌∷◌, length, slice_index, true, false, Option, Some, None, Result, Ok, Err, IfOk, OnOk, IsErr, IsSome, ◌↔◌, max, refl, sym, ◌∙◌, ap, subst, inl, inr, arith}
+use Rattle.std.proofs.Common.{◌≡◌, ◌⊎◌, ◌+◌, ◌%◌, ◌<◌, ◌≤◌, ℕ, List, ◌∷◌, length, slice_index, false, Option, Some, None, Result, Ok, Err, IfOk, OnOk, IsErr, IsSome, ◌↔◌, max, refl, sym, ◌∙◌, ap, subst, inl, inr, arith}
 use Rattle.std.specs.Option.{unwrap_or}
 use Rattle.std.proofs.lemmas.Bool.{cases_lt}
-use Rattle.cckd_shelf.specs.World.{World, file_of}
-use Rattle.cckd_shelf.specs.Seen.{Seen, Tells}
-use Rattle.cckd_shelf.proofs.OutcomeLemmas.{now_is_outcome}
+use Rattle.cckd_shelf.specs.World.{file_of}
+use Rattle.cckd_shelf.specs.Seen.{Seen}
 use Rattle.cckd_base.specs.declared.geometry.Layout.{Layout}
 use Rattle.cckd_base.specs.declared.entry.L2Entry.{L2Entry}
 use Rattle.cckd_base.specs.declared.space.Extent.{Extent}
 use Rattle.cckd_base.specs.declared.space.Full.{Full}
 use Rattle.cckd_space.specs.Pieces.{largest}
-use Rattle.cckd_base.specs.Geometry.{track_count, area_of}
 use Rattle.cckd_base.specs.Entry.{word_at, entry_at, bytes_by_entry}
 use Rattle.cckd_base.specs.Image.{IsPlace}
 use Rattle.cckd_base.proofs.PlaceLemmas.{place_or_not}
 use Rattle.cckd_space.specs.Plan.{Plan, Becomes, IsSound, place_of, with_reserved, size_with, room}
-use Rattle.cckd_tables.specs.declared.staged.StagedEntry.{StagedEntry}
-use Rattle.cckd_tables.specs.declared.staged.StagedWord.{StagedWord}
-use Rattle.cckd_tables.specs.Staging.{Stages, IsStaged, IsMoved, entry_for, place_for, new_entry}
+use Rattle.cckd_tables.specs.Staging.{Stages, entry_for, place_for}
 use Rattle.cckd_tables.specs.Stages.{with_entry, with_word}
 use Rattle.cckd_tables.specs.Tables.{TableView, AreOf}
 use Rattle.cckd_tables.specs.Looking.{with_stages, word_of}
 use Rattle.cckd_tables.proofs.StageLemmas.{entry_here, entry_other, place_here, place_other}
-use Rattle.cckd_layer.specs.Held.{NullBytes, Tracks, held}
+use Rattle.cckd_layer.specs.Held.{NullBytes}
 use Rattle.cckd_space.specs.declared.piece.Piece.{Piece}
 use Rattle.cckd_space.specs.Pieces.{IsLaid}
-use Rattle.cckd_layer.specs.Current.{claim, IsInUse, IsReplaced, IsAmong, IsPlaced, Accounts, CanBeWord, Current}
+use Rattle.cckd_layer.specs.Current.{claim, IsInUse, IsReplaced, IsAmong, IsPlaced, Accounts, Current}
 use Rattle.cckd_layer.specs.Puts.{IsReserved}
 use Rattle.cckd_layer.specs.Acts.{StagesEntry, StagesWord, left_at, given_back, GivesBack, MayGiveBack}
 use Rattle.cckd_layer.specs.Stands.{LayerView, Stands}
 use Rattle.cckd_layer.specs.Mounted.{LayerState}
-use Rattle.cckd_layer.specs.Writes.{AgreesWith, AgreesAgainWith, KeepsMapWith, TakesClaim, CanStage, StoresIn, FreesOld, entry_now, claimed_view}
+use Rattle.cckd_layer.specs.Writes.{AgreesWith, AgreesAgainWith, KeepsMapWith, CanStage, StoresIn, FreesOld, entry_now, claimed_view}
 use Rattle.cckd_layer.proofs.StandLemmas.{stands_placed, stands_sits}
 use Rattle.cckd_layer.proofs.StagedLemmas.{Takes, stands_by, stands_word, stands_staged, stands_again, stands_again_none, map_word, map_staged}
 use Rattle.cckd_layer.proofs.AccountLemmas.{placed_at, accounts_same, accounts_given, accounts_cut}

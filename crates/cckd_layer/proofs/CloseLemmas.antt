@@ -1,11 +1,11 @@
 -- Closing: the chain and the second header, at each operation and once they are there.
-use Rattle.std.proofs.Common.{◌≡◌, ◌⊎◌, ℕ, List, Result, OnOk, OnErr, refl, sym, ◌∙◌, ap, subst, inl, inr}
+use Rattle.std.proofs.Common.{◌≡◌, ℕ, List, Result, OnOk, OnErr, refl, ◌∙◌, ap, subst, inl}
 use Rattle.cckd_shelf.specs.declared.fault.Failed.{Failed}
 use Rattle.cckd_shelf.specs.Events.{Event}
 use Rattle.cckd_shelf.specs.Files.{overlaid}
 use Rattle.cckd_shelf.specs.World.{World, file_of, after_write, after_sync}
 use Rattle.cckd_shelf.specs.Seen.{Seen, Tells, Makes, Stays}
-use Rattle.cckd_shelf.specs.Outcomes.{EachOutcome, AtEach}
+use Rattle.cckd_shelf.specs.Outcomes.{EachOutcome}
 use Rattle.cckd_shelf.specs.Stops.{StopsLeave}
 use Rattle.cckd_shelf.proofs.MomentLemmas.{weaker, joins, at_end, then_synced}
 use Rattle.cckd_shelf.proofs.WorldLemmas.{now_wrote}

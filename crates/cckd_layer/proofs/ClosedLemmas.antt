@@ -1,34 +1,29 @@
 -- An image whose free bytes were written: the same image, and a layer that stands once it is closed.
-use Rattle.std.proofs.Common.{◌≡◌, ◌⊎◌, ℕ, ◌+◌, ◌*◌, ◌/◌, ◌%◌, ◌<◌, ◌≤◌, ◌&&◌, nat_le, max, Bool, true, false, cond, List, [], ◌∷◌, length, get_or, Option, Some, None, refl, sym, ◌∙◌, ap, subst, inl, inr, arith}
-use Rattle.std.specs.List.{filter}
+use Rattle.std.proofs.Common.{◌≡◌, ℕ, ◌+◌, ◌<◌, ◌≤◌, nat_le, true, false, List, [], ◌∷◌, length, refl, sym, ◌∙◌, ap, subst, inl, inr, arith}
 use Rattle.std.proofs.lemmas.Bool.{and_parts, leb-true, cond_both}
 use Rattle.cckd_shelf.specs.Files.{overlaid}
 use Rattle.cckd_shelf.specs.World.{World, IsSure, file_of}
 use Rattle.cckd_shelf.specs.Seen.{Seen, Tells}
-use Rattle.cckd_shelf.specs.Events.{Event}
-use Rattle.cckd_shelf.specs.Outcomes.{WriteLeaves, IsOutcome, EachOutcome, AtEach}
+use Rattle.cckd_shelf.specs.Outcomes.{EachOutcome, AtEach}
 use Rattle.cckd_shelf.specs.Stops.{StopsLeave}
 use Rattle.cckd_shelf.proofs.MomentLemmas.{weaker}
 use Rattle.cckd_shelf.proofs.OutcomeLemmas.{write_made}
 use Rattle.cckd_base.specs.declared.order.Order.{Order}
 use Rattle.cckd_base.specs.declared.geometry.Layout.{Layout}
 use Rattle.cckd_base.specs.Numbers.{bytes_at}
-use Rattle.cckd_base.specs.Geometry.{track_count, area_of, format_limit, IsLayout}
+use Rattle.cckd_base.specs.Geometry.{area_of, format_limit}
 use Rattle.cckd_base.specs.Entry.{word_at, entry_at}
-use Rattle.cckd_base.specs.Image.{IsPlace, IsImage}
 use Rattle.cckd_base.proofs.HeaderLemmas.{headed_layout, headed_short}
 use Rattle.cckd_base.proofs.PlaceLemmas.{part_same, table_inside}
-use Rattle.cckd_base.proofs.WriteLemmas.{StaysImage}
 use Rattle.cckd_image.specs.declared.header.CckdHeader.{CckdHeader}
 use Rattle.cckd_space.specs.declared.piece.Piece.{Piece}
-use Rattle.cckd_space.specs.Pieces.{Has, IsLaid, is_free, is_roomy, is_roomy_from, piece_end}
-use Rattle.cckd_space.specs.Plan.{Plan}
+use Rattle.cckd_space.specs.Pieces.{Has, IsLaid, is_free, is_roomy, is_roomy_from}
 use Rattle.cckd_space.proofs.PlaceLemmas.{laid_apart, has_within}
 use Rattle.cckd_layer.specs.Held.{NullBytes, Tracks, Later, Keeps}
-use Rattle.cckd_layer.specs.Sits.{identifiers_for, IsWhole, IsHeld, Rests, Sits}
+use Rattle.cckd_layer.specs.Sits.{identifiers_for, IsHeld, Sits}
 use Rattle.cckd_layer.specs.Current.{Current}
-use Rattle.cckd_layer.specs.Changes.{IsTaken, ChangesFree, IsChained}
-use Rattle.cckd_layer.specs.Marks.{SpellsSecond, FitsLayout}
+use Rattle.cckd_layer.specs.Changes.{IsTaken, ChangesFree}
+use Rattle.cckd_layer.specs.Marks.{FitsLayout}
 use Rattle.cckd_layer.specs.Chain.{link_bytes, first_place, chained, roomy_from, IsClosingAs, IsClosedFrom}
 use Rattle.cckd_layer.specs.Stands.{LayerView, Stands}
 use Rattle.cckd_layer.proofs.SpanLemmas.{held_busy}
@@ -38,7 +33,7 @@ use Rattle.cckd_layer.proofs.FillLemmas.{StaysWhole, stays_sits, stays_keeps}
 use Rattle.cckd_layer.proofs.CurrentLemmas.{names_stay, current_grown}
 use Rattle.cckd_layer.proofs.StandLemmas.{stands_sits, stands_layout}
 use Rattle.cckd_layer.proofs.ChainLemmas.{link_long, changes_nothing}
-use Rattle.cckd_layer.proofs.RemarkedLemmas.{Remarked, remarked, remarked_keeps, remarked_sits}
+use Rattle.cckd_layer.proofs.RemarkedLemmas.{remarked, remarked_keeps, remarked_sits}
 
 -- a byte that is held lies in no Free piece
 held_taken : (ps : List Piece) (end pos n i : ℕ) → IsLaid 0 ps end → IsHeld ps pos n → pos ≤ i → i < pos + n → IsTaken ps i

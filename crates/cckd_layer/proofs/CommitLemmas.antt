@@ -1,32 +1,30 @@
 -- What the pieces say of a commit: what is staged can be written, and each file that a stop then leaves is whole.
-use Rattle.std.proofs.Common.{◌≡◌, ◌⊎◌, ℕ, ◌+◌, ◌*◌, ◌/◌, ◌%◌, ◌<◌, ◌≤◌, max, Bool, true, false, List, [], ◌∷◌, length, Option, Some, None, IsSome, get_or, refl, sym, ◌∙◌, ap, subst, inl, inr, arith}
+use Rattle.std.proofs.Common.{◌≡◌, ℕ, ◌+◌, ◌/◌, ◌%◌, ◌<◌, ◌≤◌, List, length, Option, Some, None, IsSome, refl, sym, ◌∙◌, ap, subst, inl, inr, arith}
 use Rattle.std.specs.List.Sorted.{IsStrictlyIncreasing}
 use Rattle.cckd_base.specs.declared.geometry.Layout.{Layout}
 use Rattle.cckd_base.specs.declared.entry.L2Entry.{L2Entry}
 use Rattle.cckd_base.specs.declared.space.Extent.{Extent}
-use Rattle.cckd_base.specs.declared.space.Owner.{Owner}
-use Rattle.cckd_base.specs.declared.space.Owner.TheVariants.{Nobody, Header, Table, Track}
+use Rattle.cckd_base.specs.declared.space.Owner.TheVariants.{Table, Track}
 use Rattle.cckd_base.specs.Numbers.{bytes_at}
-use Rattle.cckd_base.specs.Geometry.{track_count, area_of, format_limit, IsLayout}
+use Rattle.cckd_base.specs.Geometry.{track_count, IsLayout}
 use Rattle.cckd_base.specs.Entry.{word_at, entry_at, entry_in_table}
 use Rattle.cckd_base.specs.Misfit.{table_misfit, entry_misfit}
 use Rattle.cckd_base.specs.Survey.{table_space}
 use Rattle.cckd_base.specs.Image.{IsPlace, ShareNoByte, IsImage}
 use Rattle.cckd_base.proofs.HeaderLemmas.{headed_layout}
-use Rattle.cckd_base.proofs.PlaceLemmas.{turned, inside_first, table_can_be, entry_longer, stored_inside}
+use Rattle.cckd_base.proofs.PlaceLemmas.{turned, table_can_be, entry_longer, stored_inside}
 use Rattle.cckd_space.specs.declared.piece.Piece.{Piece}
-use Rattle.cckd_space.specs.Pieces.{Has, IsLaid, reserved_piece}
+use Rattle.cckd_space.specs.Pieces.{Has, IsLaid}
 use Rattle.cckd_space.specs.Plan.{Plan}
 use Rattle.cckd_space.proofs.PlaceLemmas.{two_reserved}
-use Rattle.cckd_tables.specs.Staging.{Stages, IsStaged, IsMoved, entry_for, place_for, new_entry, new_word}
+use Rattle.cckd_tables.specs.Staging.{Stages, entry_for, place_for, new_entry, new_word}
 use Rattle.cckd_tables.specs.Blend.{Near, HasNewTables}
-use Rattle.cckd_tables.specs.Commit.{staged_groups, AreApart, IsBeside, AreTablesApart, CanMove, CanBlend, IsSynced, CanCommit}
-use Rattle.cckd_tables.proofs.StagedLemmas.{some_or_none, some_of, new_entry_at, new_word_at, moved_word, same_entry, entry_case, word_case}
+use Rattle.cckd_tables.specs.Commit.{staged_groups, AreApart, IsBeside, AreTablesApart, CanMove, CanBlend, CanCommit}
+use Rattle.cckd_tables.proofs.StagedLemmas.{some_of, new_word_at, moved_word, same_entry, entry_case, word_case}
 use Rattle.cckd_layer.specs.Sits.{identifiers_for, IsHeld, Rests, Sits}
-use Rattle.cckd_layer.specs.Current.{stored_space, IsInUse, IsReplaced, IsPlaced, placed_piece, Accounts, CanBeEntry, CanBeWord, Current}
+use Rattle.cckd_layer.specs.Current.{stored_space, IsInUse, IsReplaced, IsPlaced, placed_piece, CanBeEntry, CanBeWord, Current}
 use Rattle.cckd_layer.proofs.StageLemmas.{owners_differ}
 use Rattle.cckd_layer.proofs.FillLemmas.{StaysWhole, stays_rests}
-use Rattle.cckd_layer.proofs.CurrentLemmas.{SameNames}
 use Rattle.cckd_layer.proofs.NearLemmas.{held_placed_apart, held_beside, all_found, new_placed, near_part, near_whole}
 
 -- what is known of a file over which something staged is to be written

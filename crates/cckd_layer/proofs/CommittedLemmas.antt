@@ -1,47 +1,43 @@
 -- What a commit leaves: whole files that hold what they held or what was staged, and a layer that stands.
-use Rattle.std.proofs.Common.{◌≡◌, ◌⊎◌, ℕ, ◌+◌, ◌*◌, ◌/◌, ◌%◌, ◌<◌, ◌≤◌, max, Bool, true, false, List, [], ◌∷◌, ◌++◌, length, map, Option, Some, None, IsSome, get_or, refl, sym, ◌∙◌, ap, subst, inl, inr, arith}
-use Rattle.std.specs.List.Sorted.{IsStrictlyIncreasing}
+use Rattle.std.proofs.Common.{◌≡◌, ◌⊎◌, ℕ, ◌+◌, ◌/◌, ◌%◌, ◌<◌, ◌≤◌, List, length, map, Option, Some, None, IsSome, refl, sym, ◌∙◌, ap, subst, inl, inr, arith}
 use Rattle.cckd_shelf.specs.World.{World, IsSure, file_of}
 use Rattle.cckd_shelf.specs.Outcomes.{EachOutcome}
 use Rattle.cckd_shelf.proofs.OutcomeLemmas.{now_is_outcome}
 use Rattle.cckd_base.specs.declared.geometry.Layout.{Layout}
 use Rattle.cckd_base.specs.declared.entry.L2Entry.{L2Entry}
 use Rattle.cckd_base.specs.declared.space.Extent.{Extent}
-use Rattle.cckd_base.specs.Numbers.{bytes_at}
-use Rattle.cckd_base.specs.Geometry.{track_count, area_of, format_limit, IsLayout}
+use Rattle.cckd_base.specs.Geometry.{track_count, area_of, IsLayout}
 use Rattle.cckd_base.specs.Header.{headers_of, header_options}
-use Rattle.cckd_base.specs.Entry.{word_at, entry_at, bytes_by_entry, stored_bytes}
-use Rattle.cckd_base.specs.Survey.{header_space, table_space}
-use Rattle.cckd_base.specs.Image.{IsPlace, ShareNoByte, IsImage}
+use Rattle.cckd_base.specs.Entry.{word_at, entry_at, bytes_by_entry}
+use Rattle.cckd_base.specs.Survey.{table_space}
+use Rattle.cckd_base.specs.Image.{IsPlace}
 use Rattle.cckd_base.proofs.HeaderLemmas.{headed_layout, headed_short}
 use Rattle.cckd_base.proofs.PlaceLemmas.{table_inside, stored_inside, bytes_stay}
-use Rattle.cckd_space.specs.declared.piece.Piece.{Piece}
 use Rattle.cckd_space.specs.Pieces.{Has, IsLaid, retired, used_piece, reserved_piece}
 use Rattle.cckd_space.specs.Plan.{Plan, Becomes}
 use Rattle.cckd_space.proofs.CallerLemmas.{has_map}
-use Rattle.cckd_space.proofs.LaidLemmas.{laid_retired}
 use Rattle.cckd_space.proofs.PlaceLemmas.{has_within}
 use Rattle.cckd_tables.specs.Staging.{Stages, IsStaged, IsMoved, entry_for, place_for, new_entry, new_word}
-use Rattle.cckd_tables.specs.Blend.{Near, Blend, IsCommitted}
-use Rattle.cckd_tables.specs.Commit.{staged_tracks, staged_groups, IsSynced, IsNearOutcome, IsBlended, IsCommittedFrom, MayLeave}
+use Rattle.cckd_tables.specs.Blend.{Blend, IsCommitted}
+use Rattle.cckd_tables.specs.Commit.{IsSynced, IsBlended, IsCommittedFrom, MayLeave}
 use Rattle.cckd_tables.specs.Cells.{IsReady}
-use Rattle.cckd_tables.proofs.StagedLemmas.{some_or_none, new_entry_at, new_entry_plain, new_word_at, new_word_plain, entry_case, word_case, same_entry, same_word, moved_word}
+use Rattle.cckd_tables.proofs.StagedLemmas.{some_or_none, new_entry_at, new_entry_plain, new_word_at, new_word_plain, entry_case, word_case, same_entry, same_word}
 use Rattle.cckd_tables.proofs.BlendLemmas.{pick, blend_image, blend_old_bytes, blend_new_bytes}
 use Rattle.cckd_tables.proofs.CommitLemmas.{ready_of}
 use Rattle.cckd_layer.specs.Held.{NullBytes, Tracks, Later, IsLater, LiesWithin, Keeps, Holds, held, held_in}
 use Rattle.cckd_layer.specs.Sits.{identifiers_for, IsWhole, IsMarked, IsHeld, Rests, Sits}
-use Rattle.cckd_layer.specs.Current.{stored_space, IsTableOf, IsTrackOf, IsInUse, IsReplaced, IsNew, IsAmong, IsPlaced, placed_piece, Accounts, Spans, Current}
+use Rattle.cckd_layer.specs.Current.{stored_space, IsInUse, IsReplaced, IsNew, IsAmong, IsPlaced, placed_piece, Accounts, Current}
 use Rattle.cckd_layer.specs.Acts.{settled_all, spaces_of, committed_pieces}
 use Rattle.cckd_layer.specs.Stands.{AreRising, nothing_staged, LayerView, Stands}
 use Rattle.cckd_layer.proofs.AccountLemmas.{accounts_same, accounts_retired}
 use Rattle.cckd_layer.proofs.SpanLemmas.{KeepsHeld, keeps_twice, held_retired, EndsBy, ends_retired, spans_by, spans_grown}
 use Rattle.cckd_layer.proofs.HeadLemmas.{headers_kept, headed_kept}
 use Rattle.cckd_layer.proofs.FillLemmas.{StaysWhole, stays_keeps}
-use Rattle.cckd_layer.proofs.StageLemmas.{some_staged, some_moved, new_owner, among_owner}
+use Rattle.cckd_layer.proofs.StageLemmas.{some_moved, new_owner, among_owner}
 use Rattle.cckd_layer.proofs.NearLemmas.{near_whole, new_placed, all_found}
 use Rattle.cckd_layer.proofs.SpaceLemmas.{spaces_once, spaces_new, new_spaces}
 use Rattle.cckd_layer.proofs.SettledLemmas.{IsFilled, AreSettled, all_settled}
-use Rattle.cckd_layer.proofs.StandLemmas.{held_as, stands_sits, moved_or_not, staged_or_not}
+use Rattle.cckd_layer.proofs.StandLemmas.{held_as, stands_sits}
 
 -- the file at the sync of a commit, behind the file now
 pub synced_whole : (l : Layout) (s : Stages) (claims : List Extent) (plan : Plan) (was mid : List ℕ) → AreRising s → Sits l plan.pieces was → Current l s claims plan was → IsSynced l s was mid → StaysWhole l was mid

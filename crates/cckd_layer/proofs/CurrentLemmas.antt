@@ -1,20 +1,19 @@
 -- The file now and the pieces, once a space is placed and bytes are written beside all that is named.
-use Rattle.std.proofs.Common.{◌≡◌, ◌⊎◌, ℕ, ◌+◌, ◌*◌, ◌/◌, ◌%◌, ◌<◌, ◌≤◌, max, Bool, true, false, List, [], ◌∷◌, length, Option, Some, None, IsSome, refl, sym, ◌∙◌, ap, subst, inl, inr, arith}
+use Rattle.std.proofs.Common.{◌≡◌, ◌⊎◌, ℕ, ◌+◌, ◌/◌, ◌%◌, ◌<◌, ◌≤◌, max, List, ◌∷◌, length, refl, sym, ◌∙◌, ap, subst, inl, inr, arith}
 use Rattle.cckd_base.specs.declared.geometry.Layout.{Layout}
 use Rattle.cckd_base.specs.declared.entry.L2Entry.{L2Entry}
 use Rattle.cckd_base.specs.declared.space.Extent.{Extent}
 use Rattle.cckd_base.specs.Geometry.{track_count, IsLayout}
 use Rattle.cckd_base.specs.Entry.{word_at, entry_at}
-use Rattle.cckd_base.specs.Misfit.{entry_misfit}
-use Rattle.cckd_base.specs.Survey.{header_space, table_space}
+use Rattle.cckd_base.specs.Survey.{table_space}
 use Rattle.cckd_base.specs.Image.{IsPlace}
 use Rattle.cckd_base.proofs.PlaceLemmas.{entry_longer}
 use Rattle.cckd_base.proofs.WriteLemmas.{StaysImage}
 use Rattle.cckd_space.specs.declared.piece.Piece.{Piece}
-use Rattle.cckd_space.specs.Pieces.{Has, IsLaid, used_piece, reserved_piece}
-use Rattle.cckd_space.specs.Plan.{Plan, Becomes, IsClear, place_of, with_reserved, size_with}
-use Rattle.cckd_tables.specs.Staging.{Stages, IsStaged, IsMoved, entry_for, place_for}
-use Rattle.cckd_layer.specs.Current.{stored_space, claim, IsTableOf, IsTrackOf, IsInUse, IsReplaced, IsNew, IsAmong, IsPlaced, AreClaims, leaving_piece, placed_piece, AreExactly, Accounts, Spans, CanBeEntry, CanBeWord, Current}
+use Rattle.cckd_space.specs.Pieces.{IsLaid}
+use Rattle.cckd_space.specs.Plan.{Plan, Becomes, place_of, with_reserved, size_with}
+use Rattle.cckd_tables.specs.Staging.{Stages}
+use Rattle.cckd_layer.specs.Current.{stored_space, claim, IsTableOf, IsTrackOf, IsInUse, IsReplaced, IsPlaced, placed_piece, Accounts, Current}
 use Rattle.cckd_layer.proofs.AccountLemmas.{accounts_same, accounts_placed, has_some}
 use Rattle.cckd_layer.proofs.SpanLemmas.{spans_placed, spans_grown}
 use Rattle.cckd_space.proofs.PlaceLemmas.{placed_clear}

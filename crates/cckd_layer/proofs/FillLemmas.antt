@@ -1,22 +1,19 @@
 -- A file that sits in pieces, once bytes are written that none of its spaces has.
-use Rattle.std.proofs.Common.{◌≡◌, ◌⊎◌, ℕ, ◌+◌, ◌*◌, ◌/◌, ◌%◌, ◌<◌, ◌≤◌, max, false, List, length, get_or, None, refl, sym, ◌∙◌, ap, subst, inl, inr, arith}
-use Rattle.cckd_shelf.specs.Files.{overlaid}
+use Rattle.std.proofs.Common.{◌≡◌, ◌⊎◌, ℕ, ◌+◌, ◌/◌, ◌%◌, ◌<◌, ◌≤◌, List, length, refl, sym, subst, inl, inr, arith}
 use Rattle.cckd_shelf.specs.Outcomes.{WriteLeaves}
-use Rattle.cckd_shelf.proofs.OutcomeLemmas.{write_made}
 use Rattle.cckd_base.specs.declared.geometry.Layout.{Layout}
 use Rattle.cckd_base.specs.declared.entry.L2Entry.{L2Entry}
-use Rattle.cckd_base.specs.Geometry.{track_count, area_of, format_limit, IsLayout}
+use Rattle.cckd_base.specs.Geometry.{area_of, format_limit}
 use Rattle.cckd_base.specs.Numbers.{bytes_at}
 use Rattle.cckd_base.specs.Entry.{word_at, entry_at}
 use Rattle.cckd_base.specs.Header.{headers_of, header_options}
-use Rattle.cckd_base.specs.Image.{IsPlace, ShareNoByte, IsImage}
+use Rattle.cckd_base.specs.Image.{IsPlace, ShareNoByte}
 use Rattle.cckd_base.proofs.HeaderLemmas.{headed_layout}
 use Rattle.cckd_base.proofs.PlaceLemmas.{inside_first, part_same}
-use Rattle.cckd_base.proofs.WriteLemmas.{Touches, IsFree, StaysImage, free_write}
+use Rattle.cckd_base.proofs.WriteLemmas.{IsFree, StaysImage, free_write}
 use Rattle.cckd_space.specs.declared.piece.Piece.{Piece}
-use Rattle.cckd_space.specs.Pieces.{is_free}
 use Rattle.cckd_space.specs.Plan.{IsClear}
-use Rattle.cckd_layer.specs.Held.{NullBytes, Tracks, Later, IsLater, held_in, Keeps}
+use Rattle.cckd_layer.specs.Held.{NullBytes, Tracks, Later, IsLater, Keeps}
 use Rattle.cckd_layer.specs.Sits.{identifiers_for, IsWhole, IsMarked, IsHeld, Rests, Sits}
 use Rattle.cckd_layer.specs.Changes.{Fills}
 use Rattle.cckd_layer.proofs.SpanLemmas.{held_busy}

@@ -1,6 +1,6 @@
 -- The headers of a file through writes behind them, and through a write of the second one.
-use Rattle.std.proofs.Common.{◌≡◌, ◌⊎◌, ⊎_elim, ℕ, ◌+◌, ◌-◌, ◌*◌, ◌/◌, ◌%◌, ◌<◌, ◌≤◌, nat_lt, ◌||◌, Bool, true, false, List, [], ◌∷◌, ◌++◌, length, take, drop, replicate, get_or, Option, None, Some, refl, sym, ◌∙◌, ap, subst, inl, inr, arith}
-use Rattle.std.proofs.lemmas.Bool.{cases_lt, or_parts, ltb-false, le-ltb}
+use Rattle.std.proofs.Common.{◌≡◌, ℕ, ◌+◌, ◌-◌, ◌<◌, ◌≤◌, nat_lt, ◌||◌, Bool, true, false, List, [], ◌∷◌, ◌++◌, length, take, drop, replicate, get_or, None, refl, sym, ◌∙◌, ap, subst, inl, inr, arith}
+use Rattle.std.proofs.lemmas.Bool.{cases_lt, or_parts, le-ltb}
 use Rattle.std.proofs.lemmas.List.{ext_get_or, get_or-take, get_or-drop, length-take, length-append, take-append-le, get_or_append_left, get_or-append-add}
 use Rattle.cckd_shelf.specs.Files.{overlaid}
 use Rattle.cckd_shelf.proofs.OutcomeLemmas.{length_overlaid, overlaid_before, overlaid_within_range}
@@ -10,7 +10,7 @@ use Rattle.cckd_base.specs.Geometry.{group_count, area_of, format_limit}
 use Rattle.cckd_base.specs.Header.{headers_of, layout_of, judged_in, header_cases, header_geometry, first_case, header_fault, is_outside}
 use Rattle.cckd_base.specs.Image.{IsHeaded}
 use Rattle.cckd_base.proofs.PlaceLemmas.{part_same}
-use Rattle.cckd_base.proofs.HeaderLemmas.{NoneStands, none_stands, headed_area, headed_short}
+use Rattle.cckd_base.proofs.HeaderLemmas.{NoneStands, none_stands, headed_area}
 
 stands_none : (cs : List (Bool × HeaderFault)) → NoneStands cs → first_case cs ≡ None
 stands_none [] h = refl

@@ -1,10 +1,10 @@
 -- The opening mark: a layer agrees with its file again.
-use Rattle.std.proofs.Common.{◌≡◌, ◌==◌, if◌then◌else◌, ◌+◌, ◌/◌, ◌%◌, ◌<◌, ◌≤◌, ℕ, List, length, true, Option, Some, None, refl, sym, ◌∙◌, ap, subst, inl, inr, arith}
+use Rattle.std.proofs.Common.{◌≡◌, ◌==◌, if◌then◌else◌, ◌+◌, ◌/◌, ◌%◌, ◌<◌, ℕ, List, length, Option, Some, None, refl, sym, ◌∙◌, ap, subst, inr, arith}
 use Rattle.std.specs.Option.{unwrap_or}
 use Rattle.cckd_shelf.specs.Files.{overlaid}
 use Rattle.cckd_shelf.specs.World.{World, file_of, after_write, after_sync}
 use Rattle.cckd_shelf.specs.Outcomes.{EachOutcome}
-use Rattle.cckd_shelf.specs.Seen.{Seen, Tells}
+use Rattle.cckd_shelf.specs.Seen.{Seen}
 use Rattle.cckd_shelf.specs.Stops.{StopsLeave}
 use Rattle.cckd_shelf.proofs.OutcomeLemmas.{write_made}
 use Rattle.cckd_shelf.proofs.WorldLemmas.{now_wrote}
@@ -17,15 +17,14 @@ use Rattle.cckd_base.specs.Image.{IsPlace, ShareNoByte}
 use Rattle.cckd_base.specs.declared.order.Order.TheVariants.{Big, Little}
 use Rattle.cckd_base.proofs.PlaceLemmas.{table_inside, stored_inside, bytes_stay}
 use Rattle.cckd_image.specs.declared.header.CckdHeader.{CckdHeader}
-use Rattle.cckd_tables.specs.Staging.{Stages, entry_for, new_entry}
-use Rattle.cckd_tables.specs.Tables.{TableView, AreOf}
-use Rattle.cckd_layer.specs.Held.{NullBytes, Tracks, held}
+use Rattle.cckd_tables.specs.Staging.{entry_for, new_entry}
+use Rattle.cckd_tables.specs.Tables.{AreOf}
+use Rattle.cckd_layer.specs.Held.{NullBytes, held}
 use Rattle.cckd_layer.specs.Marks.{SpellsSecond, FitsLayout}
 use Rattle.cckd_layer.specs.Chain.{opened_second}
-use Rattle.cckd_layer.specs.Changes.{Fills, IsRemarked}
-use Rattle.cckd_layer.specs.Stands.{LayerView, Stands}
+use Rattle.cckd_layer.specs.Changes.{IsRemarked}
 use Rattle.cckd_layer.specs.Mounted.{LayerState}
-use Rattle.cckd_layer.specs.Writes.{AgreesWith, AgreesAgainWith, StopsWithinWith, claimed_view, entry_now, map_of, marked_layer}
+use Rattle.cckd_layer.specs.Writes.{AgreesWith, AgreesAgainWith, StopsWithinWith, claimed_view, marked_layer}
 use Rattle.cckd_layer.proofs.FillLemmas.{write_fills, fills_part}
 use Rattle.cckd_layer.proofs.RemarkedLemmas.{remarked, remark_keeps, stands_marked}
 use Rattle.cckd_layer.proofs.StandLemmas.{stands_sits}

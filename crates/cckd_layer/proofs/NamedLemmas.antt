@@ -1,15 +1,14 @@
 -- An image after bytes were written beside all that it names, in any number of places.
-use Rattle.std.proofs.Common.{◌≡◌, ◌⊎◌, ℕ, ◌+◌, ◌*◌, ◌/◌, ◌%◌, ◌<◌, ◌≤◌, List, length, None, get_or, sym, ◌∙◌, ap, subst, inl, inr, arith}
+use Rattle.std.proofs.Common.{◌≡◌, ℕ, ◌+◌, ◌*◌, ◌/◌, ◌%◌, ◌<◌, ◌≤◌, List, length, None, sym, ◌∙◌, ap, subst, arith}
 use Rattle.std.specs.Int.{w32}
-use Rattle.cckd_base.specs.declared.geometry.Geometry.{Geometry}
 use Rattle.cckd_base.specs.declared.geometry.Layout.{Layout}
 use Rattle.cckd_base.specs.declared.entry.L2Entry.{L2Entry}
 use Rattle.cckd_base.specs.Numbers.{bytes_at, number_of}
 use Rattle.cckd_base.specs.Geometry.{track_count, area_of, IsLayout}
-use Rattle.cckd_base.specs.Entry.{word_at, entry_at, entry_by_word, bytes_by_entry, stored_bytes}
+use Rattle.cckd_base.specs.Entry.{word_at, entry_at, entry_by_word, bytes_by_entry}
 use Rattle.cckd_base.specs.Misfit.{table_misfit, entry_misfit}
 use Rattle.cckd_base.specs.Image.{IsPlace, ShareNoByte, IsImage}
-use Rattle.cckd_base.proofs.PlaceLemmas.{table_inside, stored_inside, table_longer, entry_longer, by_word_same, bytes_stay}
+use Rattle.cckd_base.proofs.PlaceLemmas.{stored_inside, table_longer, entry_longer, by_word_same, bytes_stay}
 use Rattle.cckd_base.proofs.WriteLemmas.{StaysImage}
 
 -- the bytes of what an image names are the same in another file, which is no shorter

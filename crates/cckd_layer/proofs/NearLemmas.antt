@@ -1,29 +1,27 @@
 -- A file with new tables at places that are reserved: what it names is as it was.
-use Rattle.std.proofs.Common.{◌≡◌, ◌⊎◌, ℕ, zero, suc, ◌+◌, ◌*◌, ◌/◌, ◌%◌, ◌<◌, ◌≤◌, max, Bool, true, false, List, [], ◌∷◌, length, Option, Some, None, IsSome, get_or, map, refl, sym, ◌∙◌, ap, subst, inl, inr, arith}
+use Rattle.std.proofs.Common.{◌≡◌, ℕ, suc, ◌+◌, ◌<◌, ◌≤◌, true, false, List, [], ◌∷◌, length, Some, get_or, refl, sym, ◌∙◌, ap, inl, inr, arith}
 use Rattle.std.specs.List.{AllByRecursion}
 use Rattle.std.specs.List.Sorted.{IsStrictlyIncreasing}
 use Rattle.cckd_base.specs.declared.geometry.Layout.{Layout}
-use Rattle.cckd_base.specs.declared.entry.L2Entry.{L2Entry}
 use Rattle.cckd_base.specs.declared.space.Extent.{Extent}
 use Rattle.cckd_base.specs.Numbers.{bytes_at}
-use Rattle.cckd_base.specs.Geometry.{track_count, area_of, format_limit, IsLayout}
+use Rattle.cckd_base.specs.Geometry.{area_of, format_limit}
 use Rattle.cckd_base.specs.Entry.{word_at, entry_at}
 use Rattle.cckd_base.specs.Survey.{table_space}
-use Rattle.cckd_base.specs.Image.{IsPlace, ShareNoByte, IsImage}
+use Rattle.cckd_base.specs.Image.{ShareNoByte, IsImage}
 use Rattle.cckd_base.proofs.HeaderLemmas.{headed_layout, headed_short}
-use Rattle.cckd_base.proofs.PlaceLemmas.{part_same, inside_first, inside_second, table_inside, turned}
+use Rattle.cckd_base.proofs.PlaceLemmas.{part_same, inside_first, table_inside}
 use Rattle.cckd_space.specs.declared.piece.Piece.{Piece}
-use Rattle.cckd_space.specs.Pieces.{Has, IsLaid, reserved_piece}
+use Rattle.cckd_space.specs.Pieces.{Has, IsLaid}
 use Rattle.cckd_space.specs.Plan.{Plan}
-use Rattle.cckd_space.proofs.PlaceLemmas.{laid_apart, two_reserved, has_within}
+use Rattle.cckd_space.proofs.PlaceLemmas.{laid_apart, has_within}
 use Rattle.cckd_tables.specs.declared.staged.StagedWord.{StagedWord}
-use Rattle.cckd_tables.specs.Staging.{Stages, IsStaged, IsMoved, entry_for, place_for}
+use Rattle.cckd_tables.specs.Staging.{Stages, place_for}
 use Rattle.cckd_tables.specs.Blend.{AreBesideNew, Near}
 use Rattle.cckd_tables.specs.Commit.{staged_groups}
 use Rattle.cckd_tables.proofs.StagedLemmas.{place_own}
 use Rattle.cckd_layer.specs.Sits.{identifiers_for, held_kind, IsHeld, Rests, Sits}
-use Rattle.cckd_layer.specs.Current.{IsPlaced, placed_piece, AreExactly, Accounts}
-use Rattle.cckd_layer.specs.Current.{Current}
+use Rattle.cckd_layer.specs.Current.{IsPlaced, placed_piece, Accounts}
 use Rattle.cckd_layer.proofs.NamedLemmas.{KeepsNamed, named_stays}
 use Rattle.cckd_layer.proofs.HeadLemmas.{headers_kept, headed_kept}
 use Rattle.cckd_layer.proofs.FillLemmas.{StaysWhole}

@@ -1,11 +1,9 @@
 -- Bytes that are put to a free place: at each operation, and once they are there.
-use Rattle.std.proofs.Common.{◌≡◌, ◌⊎◌, ℕ, ◌+◌, ◌*◌, ◌/◌, ◌%◌, ◌<◌, ◌≤◌, max, Bool, true, false, List, [], ◌∷◌, length, Option, Some, None, Result, OnOk, OnErr, refl, sym, ◌∙◌, ap, subst, inl, inr, arith}
+use Rattle.std.proofs.Common.{◌≡◌, ℕ, List, length, Result, OnOk, OnErr, subst}
 use Rattle.cckd_shelf.specs.declared.fault.Failed.{Failed}
-use Rattle.cckd_shelf.specs.Events.{Event}
-use Rattle.cckd_shelf.specs.World.{World, after_write, after_torn}
+use Rattle.cckd_shelf.specs.World.{after_write, after_torn}
 use Rattle.cckd_shelf.specs.Seen.{Seen, Makes, MayMake}
 use Rattle.cckd_shelf.specs.Outcomes.{IsOutcome}
-use Rattle.cckd_shelf.specs.Frame.{OnlyIn}
 use Rattle.cckd_shelf.specs.Stops.{StopsLeave}
 use Rattle.cckd_shelf.proofs.MomentLemmas.{wrote}
 use Rattle.cckd_layer.specs.Changes.{Fills, IsFilled}

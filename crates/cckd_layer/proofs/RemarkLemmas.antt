@@ -1,28 +1,21 @@
 -- The second header written anew: what it says behind any first one, and the file that has it.
-use Rattle.std.proofs.Common.{◌≡◌, ◌⊎◌, ℕ, ◌+◌, ◌*◌, ◌/◌, ◌%◌, ◌<◌, ◌≤◌, ◌==◌, max, Bool, true, false, cond, List, [], ◌∷◌, ◌++◌, length, take, drop, get_or, Option, None, Result, Ok, Err, OnOk, OnErr, refl, sym, ◌∙◌, ap, subst, inl, inr, arith}
-use Rattle.std.specs.Prelude.{slice_index}
+use Rattle.std.proofs.Common.{◌≡◌, ℕ, ◌+◌, List, [], ◌∷◌, ◌++◌, length, take, drop, get_or, Result, OnOk, OnErr, refl, sym, ◌∙◌, ap, subst, inl, inr, arith}
 use Rattle.std.specs.Int.{w16, w32, cast_signed}
-use Rattle.std.proofs.lemmas.Bool.{eqb-true, not-true, not-false}
-use Rattle.std.proofs.lemmas.List.{drop-drop, get_or-drop, length-drop, length-take, length-append, take_all, ext_get_or, get_or-take, get_or_append_left}
+use Rattle.std.proofs.lemmas.List.{drop-drop, get_or-drop, length-drop, take_all}
 use Rattle.cckd_shelf.specs.declared.fault.Failed.{Failed}
-use Rattle.cckd_shelf.specs.Files.{overlaid}
 use Rattle.cckd_shelf.specs.Seen.{Seen, Tells, Makes, MayMake, Stays}
 use Rattle.cckd_shelf.specs.World.{World, IsSure, file_of, after_write, after_torn, after_sync}
-use Rattle.cckd_shelf.specs.Outcomes.{WriteLeaves, IsOutcome, EachOutcome, AtEach}
+use Rattle.cckd_shelf.specs.Outcomes.{IsOutcome, EachOutcome}
 use Rattle.cckd_shelf.specs.Stops.{StopsLeave}
 use Rattle.cckd_shelf.proofs.MomentLemmas.{wrote, then_synced}
-use Rattle.cckd_shelf.proofs.OutcomeLemmas.{length_overlaid, sync_leaves_now}
+use Rattle.cckd_shelf.proofs.OutcomeLemmas.{sync_leaves_now}
 use Rattle.cckd_shelf.proofs.WorldLemmas.{sure_wrote}
-use Rattle.cckd_base.specs.declared.order.Order.{Order}
-use Rattle.cckd_base.specs.declared.order.Order.TheVariants.{Little, Big}
-use Rattle.cckd_base.specs.declared.geometry.Geometry.{Geometry}
-use Rattle.cckd_base.specs.declared.geometry.Layout.{Layout}
-use Rattle.cckd_base.specs.Numbers.{bytes_at, number_of, number_at}
-use Rattle.cckd_image.specs.declared.header.CckdHeader.{CckdHeader}
+use Rattle.cckd_base.specs.declared.order.Order.TheVariants.{Little}
+use Rattle.cckd_base.specs.Numbers.{number_of}
 use Rattle.cckd_image.specs.declared.header.ImageHeader.{ImageHeader}
 use Rattle.cckd_image.specs.Image.{order_by, cckd_header_of, header_of}
 use Rattle.cckd_layer.specs.Changes.{IsRemarked}
-use Rattle.cckd_layer.specs.Marks.{SpellsSecond, FitsLayout}
+use Rattle.cckd_layer.specs.Marks.{SpellsSecond}
 
 -- each operation leaves what could be left before, with one second header or the other
 pub remark_stopped : (slot : ℕ) (bytes : List ℕ) (old new : Seen) (result : Result (Unit {0}) Failed) → length bytes ≡ 512

@@ -1,43 +1,38 @@
 -- A file whose second header was written anew: the same image, which says what the new header says.
-use Rattle.std.proofs.Common.{◌≡◌, ◌⊎◌, ℕ, ◌+◌, ◌*◌, ◌/◌, ◌%◌, ◌<◌, ◌≤◌, ◌==◌, max, Bool, true, false, List, [], ◌∷◌, ◌++◌, length, take, drop, get_or, Option, Some, None, refl, sym, ◌∙◌, ap, subst, inl, inr, arith}
-use Rattle.std.specs.Prelude.{slice_index, not}
+use Rattle.std.proofs.Common.{◌≡◌, ◌⊎◌, ℕ, ◌+◌, ◌/◌, ◌%◌, ◌<◌, ◌≤◌, true, List, length, take, get_or, None, refl, sym, ◌∙◌, ap, subst, inl, inr, arith}
 use Rattle.std.specs.Int.{w32}
 use Rattle.std.specs.Str.{bytes_eq}
 use Rattle.std.proofs.lemmas.Bool.{eqb-true, not-false}
 use Rattle.std.proofs.lemmas.List.{length-take, length-append, get_or-take, get_or_append_left}
 use Rattle.cckd_shelf.specs.Files.{overlaid}
-use Rattle.cckd_shelf.specs.Events.{Written}
 use Rattle.cckd_shelf.specs.World.{World, IsSure, file_of, after_write, after_sync}
 use Rattle.cckd_shelf.specs.Seen.{Seen, Tells}
-use Rattle.cckd_shelf.specs.Outcomes.{IsOutcome, EachOutcome, AtEach}
+use Rattle.cckd_shelf.specs.Outcomes.{EachOutcome, AtEach}
 use Rattle.cckd_shelf.specs.Stops.{StopsLeave}
 use Rattle.cckd_shelf.proofs.MomentLemmas.{weaker}
 use Rattle.cckd_shelf.proofs.OutcomeLemmas.{length_overlaid, write_made, sync_leaves_now}
 use Rattle.cckd_shelf.proofs.WorldLemmas.{now_wrote, sure_wrote}
-use Rattle.cckd_base.specs.declared.order.Order.{Order}
 use Rattle.cckd_base.specs.declared.order.Order.TheVariants.{Little}
-use Rattle.cckd_base.specs.declared.geometry.Geometry.{Geometry}
 use Rattle.cckd_base.specs.declared.geometry.Layout.{Layout}
-use Rattle.cckd_base.specs.Numbers.{bytes_at, number_of, number_at}
-use Rattle.cckd_base.specs.Geometry.{track_count, group_count, area_of, format_limit, IsLayout}
-use Rattle.cckd_base.specs.Header.{shadow_identifier, headers_of, identifier, header_heads, header_track_size, header_cylinders, header_device_type, header_sequence, header_options, header_null_format, image_order, level_one_count, level_two_count, header_geometry, layout_of, judged_in, header_cases, first_case, header_fault}
+use Rattle.cckd_base.specs.Numbers.{bytes_at, number_of}
+use Rattle.cckd_base.specs.Geometry.{group_count}
+use Rattle.cckd_base.specs.Header.{shadow_identifier, headers_of, identifier, header_heads, header_track_size, header_cylinders, header_device_type, header_sequence, header_null_format, image_order, level_one_count, level_two_count, header_geometry, layout_of, judged_in, header_cases, first_case, header_fault}
 use Rattle.cckd_base.specs.Entry.{word_at, entry_at}
-use Rattle.cckd_base.specs.Image.{IsHeaded, IsImage}
-use Rattle.cckd_base.proofs.HeaderLemmas.{none_stands, headed_layout, headed_short}
+use Rattle.cckd_base.proofs.HeaderLemmas.{none_stands, headed_layout}
 use Rattle.cckd_base.proofs.PlaceLemmas.{part_same, table_inside, stored_inside}
 use Rattle.cckd_base.proofs.WriteLemmas.{StaysImage}
 use Rattle.cckd_space.specs.declared.piece.Piece.{Piece}
 use Rattle.cckd_image.specs.declared.header.CckdHeader.{CckdHeader}
 use Rattle.cckd_image.specs.Image.{order_by, cckd_header_of}
 use Rattle.cckd_layer.specs.Held.{NullBytes, Tracks, Later, IsLater, Keeps}
-use Rattle.cckd_layer.specs.Sits.{identifiers_for, IsWhole, IsMarked, Rests, Sits}
+use Rattle.cckd_layer.specs.Sits.{identifiers_for, IsWhole, IsMarked, Sits}
 use Rattle.cckd_layer.specs.Current.{Current}
-use Rattle.cckd_layer.specs.Changes.{Fills, IsRemarked}
+use Rattle.cckd_layer.specs.Changes.{IsRemarked}
 use Rattle.cckd_layer.specs.Marks.{SpellsSecond, FitsLayout}
 use Rattle.cckd_layer.specs.Stands.{LayerView, Stands}
-use Rattle.cckd_layer.proofs.HeadLemmas.{headers_front, headers_written, fault_none_at}
+use Rattle.cckd_layer.proofs.HeadLemmas.{headers_front, headers_written}
 use Rattle.cckd_layer.proofs.FillLemmas.{write_fills, fills_part, stays_rests}
-use Rattle.cckd_layer.proofs.NamedLemmas.{KeepsNamed, named_stays}
+use Rattle.cckd_layer.proofs.NamedLemmas.{named_stays}
 use Rattle.cckd_layer.proofs.CurrentLemmas.{names_stay, current_grown}
 use Rattle.cckd_layer.proofs.StandLemmas.{stands_sits, stands_layout}
 

@@ -1,33 +1,30 @@
 -- Bytes that are written to a place that is reserved: all that stands stays.
-use Rattle.std.proofs.Common.{◌≡◌, ◌⊎◌, ℕ, ◌+◌, ◌*◌, ◌/◌, ◌%◌, ◌<◌, ◌≤◌, max, List, [], ◌∷◌, length, Option, Some, None, Result, Ok, Err, OnOk, OnErr, refl, sym, ◌∙◌, ap, subst, inl, inr, arith}
+use Rattle.std.proofs.Common.{◌≡◌, ℕ, ◌+◌, ◌*◌, ◌%◌, ◌<◌, ◌≤◌, List, [], ◌∷◌, length, Option, Some, None, Result, OnOk, OnErr, refl, sym, ◌∙◌, ap, subst, inl, inr, arith}
 use Rattle.std.specs.Option.{unwrap_or}
 use Rattle.std.specs.List.{AllByRecursion}
 use Rattle.cckd_shelf.specs.declared.fault.Failed.{Failed}
 use Rattle.cckd_shelf.specs.Files.{overlaid}
-use Rattle.cckd_shelf.specs.World.{World, IsSure, file_of, after_write, after_torn}
-use Rattle.cckd_shelf.specs.Outcomes.{WriteLeaves, EachOutcome, AtEach}
-use Rattle.cckd_shelf.specs.Seen.{Seen, Tells, Makes, MayMake}
+use Rattle.cckd_shelf.specs.World.{World, file_of, after_write, after_torn}
+use Rattle.cckd_shelf.specs.Outcomes.{WriteLeaves, EachOutcome}
+use Rattle.cckd_shelf.specs.Seen.{Seen, Makes, MayMake}
 use Rattle.cckd_shelf.proofs.MomentLemmas.{wrote}
-use Rattle.cckd_shelf.proofs.OutcomeLemmas.{write_step, write_made, now_is_outcome, length_overlaid}
+use Rattle.cckd_shelf.proofs.OutcomeLemmas.{write_step, write_made, length_overlaid}
 use Rattle.cckd_shelf.proofs.WorldLemmas.{now_wrote, sure_wrote}
 use Rattle.cckd_base.specs.declared.geometry.Layout.{Layout}
 use Rattle.cckd_base.specs.declared.entry.L2Entry.{L2Entry}
 use Rattle.cckd_base.specs.declared.space.Extent.{Extent}
 use Rattle.cckd_base.specs.declared.space.Owner.TheVariants.{Nobody, Track}
-use Rattle.cckd_base.specs.Numbers.{bytes_at}
-use Rattle.cckd_base.specs.Geometry.{track_count, area_of, format_limit, IsLayout}
+use Rattle.cckd_base.specs.Geometry.{track_count, area_of}
 use Rattle.cckd_base.specs.Entry.{word_at, entry_at, entry_of, entry_in_table, bytes_by_entry}
 use Rattle.cckd_base.specs.Image.{IsPlace, ShareNoByte}
 use Rattle.cckd_base.proofs.HeaderLemmas.{headed_layout, headed_short}
 use Rattle.cckd_base.proofs.PlaceLemmas.{stored_inside, bytes_stay, inside_first}
 use Rattle.cckd_base.proofs.WriteLemmas.{IsFree, free_write}
-use Rattle.cckd_space.specs.declared.piece.Piece.{Piece}
-use Rattle.cckd_space.specs.Pieces.{Has, IsLaid}
-use Rattle.cckd_space.specs.Plan.{Plan}
+use Rattle.cckd_space.specs.Pieces.{Has}
 use Rattle.cckd_space.proofs.PlaceLemmas.{two_reserved, has_within}
-use Rattle.cckd_tables.specs.Staging.{Stages, entry_for, new_entry}
+use Rattle.cckd_tables.specs.Staging.{entry_for, new_entry}
 use Rattle.cckd_tables.specs.Tables.{TableView, CachedTable, AreOf, IsCachedOf, HasTables}
-use Rattle.cckd_layer.specs.Held.{NullBytes, Tracks, Later, Keeps, AreSame, held}
+use Rattle.cckd_layer.specs.Held.{NullBytes, Keeps, held}
 use Rattle.cckd_layer.specs.Sits.{identifiers_for, IsMarked, Rests, Sits}
 use Rattle.cckd_layer.specs.Current.{stored_space, claim, IsAmong, IsPlaced, placed_piece, Current}
 use Rattle.cckd_layer.specs.Changes.{Fills}
@@ -36,7 +33,7 @@ use Rattle.cckd_layer.specs.Marks.{FitsLayout}
 use Rattle.cckd_layer.specs.Mounted.{LayerState}
 use Rattle.cckd_layer.specs.Writes.{AgreesWith, AgreesAgainWith, StopsWithinWith, IsPut, claimed_view, entry_now, map_of}
 use Rattle.cckd_layer.proofs.HeadLemmas.{headers_kept, headed_kept}
-use Rattle.cckd_layer.proofs.StageLemmas.{owners_differ, among_owner}
+use Rattle.cckd_layer.proofs.StageLemmas.{owners_differ}
 use Rattle.cckd_layer.proofs.NearLemmas.{held_placed_apart}
 use Rattle.cckd_layer.proofs.FillLemmas.{StaysWhole, stays_sits, stays_marked, stays_keeps, write_fills, fills_part}
 use Rattle.cckd_layer.proofs.CurrentLemmas.{names_stay, current_grown}

@@ -1,5 +1,5 @@
 -- The spaces that staged entries and words name, as a list: each once.
-use Rattle.std.proofs.Common.{◌≡◌, ◌⊎◌, ℕ, zero, suc, ◌+◌, ◌<◌, ◌≤◌, ◌==◌, cond, List, [], ◌∷◌, ◌++◌, length, map, Option, Some, None, get_or, refl, sym, ◌∙◌, ap, subst, inl, inr, arith}
+use Rattle.std.proofs.Common.{◌≡◌, ◌⊎◌, ℕ, zero, suc, ◌+◌, ◌<◌, ◌==◌, cond, List, [], ◌∷◌, ◌++◌, length, Some, get_or, refl, sym, ◌∙◌, ap, subst, inl, inr, arith}
 use Rattle.std.specs.Prelude.{slice_index}
 use Rattle.std.specs.List.Sorted.{IsStrictlyIncreasing}
 use Rattle.std.proofs.lemmas.Bool.{cond-true, cond-false, eq-eqb, ne_eqb}
@@ -19,7 +19,6 @@ use Rattle.cckd_tables.specs.Commit.{staged_tracks, staged_groups}
 use Rattle.cckd_tables.proofs.StagedLemmas.{increasing_lt, place_own, entry_own, place_index, entry_index}
 use Rattle.cckd_layer.specs.Current.{stored_space, IsNew, IsAmong}
 use Rattle.cckd_layer.specs.Acts.{entry_spaces, word_spaces, spaces_of, names_nothing}
-use Rattle.cckd_layer.proofs.StageLemmas.{owners_differ}
 
 pub in_at : {X : Type 0} (xs : List X) (i : ℕ) (d : X) → i < length xs → In (get_or xs i d) xs
 in_at [] i d low = absurd (omega (arith, low))

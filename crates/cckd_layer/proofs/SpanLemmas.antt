@@ -1,24 +1,22 @@
 -- What each act keeps of held bytes, and of how pieces and file go together.
-use Rattle.std.proofs.Common.{◌≡◌, ◌⊎◌, ℕ, ◌+◌, ◌-◌, ◌<◌, ◌≤◌, ◌&&◌, ◌==◌, nat_lt, nat_le, min, max, Bool, true, false, cond, List, [], ◌∷◌, ◌++◌, length, map, Option, Some, None, refl, sym, ◌∙◌, ap, subst, inl, inr, arith}
+use Rattle.std.proofs.Common.{◌≡◌, ◌⊎◌, ℕ, ◌+◌, ◌<◌, ◌≤◌, ◌&&◌, ◌==◌, nat_le, max, Bool, true, false, cond, List, [], ◌∷◌, length, map, Option, Some, None, refl, sym, ◌∙◌, ap, subst, inl, inr, arith}
 use Rattle.std.specs.Option.{option_map, unwrap_or}
-use Rattle.std.proofs.lemmas.Bool.{cases_eq, cases_lt, cond_both, cond-true, cond-false, eq-eqb, ne_eqb, and_parts, leb-true, leb-false}
+use Rattle.std.proofs.lemmas.Bool.{cases_eq, cases_lt, cond_both, cond-true, cond-false, ne_eqb, leb-false}
 use Rattle.cckd_base.specs.declared.geometry.Layout.{Layout}
 use Rattle.cckd_base.specs.declared.space.Extent.{Extent}
 use Rattle.cckd_base.specs.declared.space.Owner.{Owner}
 use Rattle.cckd_base.specs.declared.space.Owner.TheVariants.{Nobody}
 use Rattle.cckd_base.specs.Geometry.{area_of}
 use Rattle.cckd_base.specs.Entry.{word_at, entry_at}
-use Rattle.cckd_base.specs.Image.{IsPlace}
 use Rattle.cckd_space.specs.declared.piece.Kind.{Kind}
 use Rattle.cckd_space.specs.declared.piece.Kind.TheVariants.{Used, Free, Reserved, Leaving, Pending}
 use Rattle.cckd_space.specs.declared.piece.Piece.{Piece}
-use Rattle.cckd_space.specs.Pieces.{Has, IsLaid, NotBothFree, IsFormedAs, is_free, is_used_at, is_reserved_at, used_kind, reserved_kind, free_kind, first, replaced, settled, left, freed, merged, retired, retired_as, released, released_as, used_piece, reserved_piece, trimmed, used_end, cut, free_run, free_piece, has_room, aligned_up, appended, end_place, piece_end}
-use Rattle.cckd_space.specs.Plan.{Plan, Becomes, first_fit, place_of, with_reserved, size_with, size_at}
-use Rattle.cckd_space.proofs.LaidLemmas.{up, used_end_within, laid_le, laid_freed}
+use Rattle.cckd_space.specs.Pieces.{Has, IsLaid, IsFormedAs, is_free, is_used_at, is_reserved_at, reserved_kind, free_kind, first, replaced, settled, left, freed, merged, retired, retired_as, released, reserved_piece, used_end, cut, has_room, aligned_up, end_place, piece_end}
+use Rattle.cckd_space.specs.Plan.{Plan, Becomes, place_of, with_reserved, size_with, size_at}
+use Rattle.cckd_space.proofs.LaidLemmas.{up, used_end_within, laid_freed}
 use Rattle.cckd_space.proofs.CallerLemmas.{first_has, found, has_replaced, has_new, has_map, has_merged, has_trimmed, has_of_replaced, has_of_merged, placed_found, placed_keeps}
-use Rattle.cckd_space.proofs.PlaceLemmas.{has_within}
 use Rattle.cckd_space.proofs.SearchLemmas.{used_there}
-use Rattle.cckd_space.proofs.CountLemmas.{found_used, found_reserved}
+use Rattle.cckd_space.proofs.CountLemmas.{found_used}
 use Rattle.cckd_layer.specs.Sits.{held_kind, IsHeld, Rests, Sits}
 use Rattle.cckd_layer.specs.Current.{placed_piece, Spans}
 use Rattle.cckd_layer.specs.Acts.{given_back, GivesBack}

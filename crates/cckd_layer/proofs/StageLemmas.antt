@@ -1,5 +1,5 @@
 -- The file now and the pieces, once an entry or a word is staged.
-use Rattle.std.proofs.Common.{◌≡◌, ◌⊎◌, ℕ, ◌+◌, ◌*◌, ◌/◌, ◌%◌, ◌<◌, ◌≤◌, ◌==◌, min, max, Bool, true, false, cond, List, [], ◌∷◌, length, Option, Some, None, IsSome, refl, sym, ◌∙◌, ap, subst, inl, inr, arith}
+use Rattle.std.proofs.Common.{◌≡◌, ◌⊎◌, ℕ, ◌<◌, ◌==◌, cond, List, [], ◌∷◌, Option, Some, None, IsSome, refl, sym, ◌∙◌, ap, subst, inl, inr, arith}
 use Rattle.std.proofs.lemmas.Bool.{cases_eq, cond-true, cond-false, eq-eqb, ne_eqb}
 use Rattle.cckd_base.specs.declared.geometry.Layout.{Layout}
 use Rattle.cckd_base.specs.declared.entry.L2Entry.{L2Entry}
@@ -8,17 +8,15 @@ use Rattle.cckd_base.specs.declared.space.Owner.{Owner}
 use Rattle.cckd_base.specs.declared.space.Owner.TheVariants.{Nobody, Header, Table, Track}
 use Rattle.cckd_base.specs.Geometry.{track_count}
 use Rattle.cckd_base.specs.Entry.{see_parent, word_at, entry_at}
-use Rattle.cckd_base.specs.Survey.{header_space, table_space}
+use Rattle.cckd_base.specs.Survey.{table_space}
 use Rattle.cckd_base.specs.Image.{IsPlace}
 use Rattle.cckd_base.proofs.PlaceLemmas.{place_or_not}
 use Rattle.cckd_space.specs.declared.piece.Piece.{Piece}
-use Rattle.cckd_space.specs.Pieces.{Has, IsLaid, is_used_at, is_reserved_at, replaced, left, freed, merged, used_end, cut}
-use Rattle.cckd_space.specs.Plan.{Plan, Becomes}
+use Rattle.cckd_space.specs.Pieces.{IsLaid, is_used_at, replaced, left}
 use Rattle.cckd_tables.specs.Staging.{Stages, IsStaged, IsMoved, entry_for, place_for}
-use Rattle.cckd_layer.specs.Current.{stored_space, claim, IsTableOf, IsTrackOf, IsInUse, IsReplaced, IsNew, IsAmong, IsPlaced, AreClaims, Accounts, Spans, CanBeEntry, CanBeWord, Current}
-use Rattle.cckd_layer.specs.Acts.{StagesEntry, StagesWord, left_at, given_back, GivesBack}
-use Rattle.cckd_layer.proofs.AccountLemmas.{accounts_same, accounts_left, accounts_renamed, accounts_given, accounts_cut}
-use Rattle.cckd_layer.proofs.SpanLemmas.{spans_left, spans_by}
+use Rattle.cckd_layer.specs.Current.{stored_space, claim, IsInUse, IsReplaced, IsNew, IsAmong, IsPlaced, AreClaims, Accounts}
+use Rattle.cckd_layer.specs.Acts.{StagesEntry, StagesWord, left_at}
+use Rattle.cckd_layer.proofs.AccountLemmas.{accounts_same, accounts_left, accounts_renamed}
 
 owner_of : Extent → Owner
 owner_of x = x.owner

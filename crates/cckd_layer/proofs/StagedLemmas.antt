@@ -1,29 +1,27 @@
 -- The file now and the pieces, and what holds between calls, once an entry or a word is staged.
-use Rattle.std.proofs.Common.{◌≡◌, ◌⊎◌, ℕ, ◌+◌, ◌*◌, ◌/◌, ◌%◌, ◌<◌, ◌≤◌, ◌==◌, min, max, Bool, true, false, cond, List, [], ◌∷◌, length, Option, Some, None, IsSome, refl, sym, ◌∙◌, ap, subst, inl, inr, arith}
+use Rattle.std.proofs.Common.{◌≡◌, ℕ, ◌/◌, ◌<◌, List, ◌∷◌, length, Option, Some, None, IsSome, refl, sym, ◌∙◌, ap, subst, inl, inr}
 use Rattle.std.specs.Option.{unwrap_or}
 use Rattle.std.proofs.lemmas.Bool.{cases_eq}
 use Rattle.cckd_shelf.specs.World.{World, file_of}
 use Rattle.cckd_base.specs.declared.geometry.Layout.{Layout}
 use Rattle.cckd_base.specs.declared.entry.L2Entry.{L2Entry}
 use Rattle.cckd_base.specs.declared.space.Extent.{Extent}
-use Rattle.cckd_base.specs.declared.space.Owner.TheVariants.{Nobody, Header, Table, Track}
+use Rattle.cckd_base.specs.declared.space.Owner.TheVariants.{Nobody, Track}
 use Rattle.cckd_base.specs.Geometry.{track_count}
-use Rattle.cckd_base.specs.Entry.{see_parent, word_at, entry_at, bytes_by_entry}
-use Rattle.cckd_base.specs.Survey.{header_space, table_space}
+use Rattle.cckd_base.specs.Entry.{word_at, entry_at, bytes_by_entry}
 use Rattle.cckd_base.specs.Image.{IsPlace}
 use Rattle.cckd_base.proofs.PlaceLemmas.{place_or_not}
 use Rattle.cckd_space.specs.declared.piece.Piece.{Piece}
-use Rattle.cckd_space.specs.Pieces.{Has, IsLaid, first, is_used_at, is_reserved_at, replaced, left, freed, merged, used_end, cut, used_piece}
+use Rattle.cckd_space.specs.Pieces.{IsLaid}
 use Rattle.cckd_space.specs.Plan.{Plan, Becomes}
-use Rattle.cckd_tables.specs.Staging.{Stages, IsStaged, IsMoved, entry_for, place_for, new_entry}
+use Rattle.cckd_tables.specs.Staging.{Stages, IsStaged, IsMoved, entry_for, place_for}
 use Rattle.cckd_layer.specs.Held.{NullBytes, Stores, held}
-use Rattle.cckd_layer.specs.Sits.{Sits}
-use Rattle.cckd_layer.specs.Current.{stored_space, claim, IsInUse, IsReplaced, IsNew, IsAmong, IsPlaced, AreClaims, Accounts, Spans, CanBeEntry, CanBeWord, Current}
+use Rattle.cckd_layer.specs.Current.{stored_space, claim, IsInUse, IsReplaced, IsPlaced, AreClaims, Accounts, Spans, CanBeEntry, CanBeWord, Current}
 use Rattle.cckd_layer.specs.Stands.{LayerView, Stands}
 use Rattle.cckd_layer.specs.Acts.{StagesEntry, StagesWord, left_at, given_back, GivesBack, MayGiveBack}
-use Rattle.cckd_layer.proofs.AccountLemmas.{placed_at, accounts_same, accounts_left, accounts_given, accounts_cut, accounts_renamed}
+use Rattle.cckd_layer.proofs.AccountLemmas.{placed_at, accounts_same, accounts_given, accounts_cut}
 use Rattle.cckd_layer.proofs.SpanLemmas.{KeepsHeld, keeps_in, keeps_twice, keeps_sits, held_left, held_given, held_cut, spans_left, spans_given, spans_same}
-use Rattle.cckd_layer.proofs.StageLemmas.{left_is, left_none, not_place, entry_leaves, owner_fresh, owner_again, entry_takes, entry_takes_none, owners_differ, among_owner, some_staged, some_moved, use_as, replaced_as, table_leaves, word_takes, word_moved}
+use Rattle.cckd_layer.proofs.StageLemmas.{left_is, left_none, not_place, entry_leaves, owner_fresh, owner_again, entry_takes, entry_takes_none, owners_differ, among_owner, some_staged, use_as, replaced_as, table_leaves, word_takes, word_moved}
 
 -- A staged entry takes the claim of its space, where it names one. These claims are left.
 pub record Takes (e : L2Entry) (claims rest : List Extent) : Type 0 where

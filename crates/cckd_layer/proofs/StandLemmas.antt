@@ -1,10 +1,9 @@
 -- What holds between calls is kept by bytes that are put to a free place.
-use Rattle.std.proofs.Common.{◌≡◌, ◌⊎◌, ℕ, ◌+◌, ◌*◌, ◌/◌, ◌%◌, ◌<◌, ◌≤◌, max, Bool, true, false, List, [], ◌∷◌, length, map, Option, Some, None, IsSome, Result, Ok, Err, refl, sym, ◌∙◌, ap, subst, inl, inr, arith}
+use Rattle.std.proofs.Common.{◌≡◌, ◌⊎◌, ℕ, ◌+◌, ◌%◌, ◌<◌, ◌≤◌, max, true, List, ◌∷◌, length, map, Option, Some, None, IsSome, Result, Ok, Err, refl, sym, ◌∙◌, ap, subst, inl, inr, arith}
 use Rattle.std.specs.Option.{option_map, unwrap_or}
 use Rattle.cckd_shelf.specs.Files.{overlaid}
-use Rattle.cckd_shelf.specs.Events.{Event, Written}
-use Rattle.cckd_shelf.specs.World.{World, IsSure, file_of, after_write, after_sync}
-use Rattle.cckd_shelf.specs.Outcomes.{WriteLeaves, IsOutcome, EachOutcome, AtEach}
+use Rattle.cckd_shelf.specs.World.{World, file_of, after_write, after_sync}
+use Rattle.cckd_shelf.specs.Outcomes.{WriteLeaves, EachOutcome, AtEach}
 use Rattle.cckd_shelf.specs.Seen.{Seen, Tells}
 use Rattle.cckd_shelf.specs.Stops.{StopsLeave}
 use Rattle.cckd_shelf.proofs.MomentLemmas.{weaker, kept_at}
@@ -22,9 +21,9 @@ use Rattle.cckd_base.proofs.HeaderLemmas.{headed_layout, headed_short}
 use Rattle.cckd_base.proofs.PlaceLemmas.{stored_inside, bytes_stay, inside_first}
 use Rattle.cckd_space.specs.declared.piece.Piece.{Piece}
 use Rattle.cckd_space.specs.Pieces.{Has, IsLaid, first, has_room, aligned_up, end_place, used_piece, merged, released}
-use Rattle.cckd_space.specs.Plan.{Plan, Becomes, IsClear, place_of, with_reserved, size_with}
+use Rattle.cckd_space.specs.Plan.{Plan, Becomes, place_of}
 use Rattle.cckd_space.proofs.PlaceLemmas.{placed_clear, has_within}
-use Rattle.cckd_tables.specs.Staging.{Stages, IsStaged, IsMoved, entry_for, place_for, new_entry}
+use Rattle.cckd_tables.specs.Staging.{Stages, IsStaged, IsMoved, entry_for, place_for}
 use Rattle.cckd_layer.specs.Held.{NullBytes, Tracks, Later, Keeps, held}
 use Rattle.cckd_layer.specs.Sits.{identifiers_for, IsMarked, held_kind, IsHeld, Rests, Sits}
 use Rattle.cckd_layer.specs.Current.{stored_space, claim, IsInUse, IsReplaced, IsPlaced, leaving_piece, placed_piece, Accounts, Current}
@@ -36,7 +35,7 @@ use Rattle.cckd_layer.specs.Stands.{LayerView, Stands}
 use Rattle.cckd_layer.proofs.AccountLemmas.{accounts_released}
 use Rattle.cckd_layer.proofs.SpanLemmas.{KeepsHeld, held_placed, keeps_sits, spans_released}
 use Rattle.cckd_layer.proofs.FillLemmas.{StaysWhole, filled_whole, rests_free, stays_sits, stays_marked, stays_keeps, write_fills, fills_part}
-use Rattle.cckd_layer.proofs.CurrentLemmas.{SameNames, names_stay, current_grown, current_placed}
+use Rattle.cckd_layer.proofs.CurrentLemmas.{names_stay, current_grown, current_placed}
 
 -- the file now sits in the pieces
 pub stands_sits : (v : LayerView) (slot : ℕ) (w : World) → Stands v slot w → Sits v.layout v.plan.pieces (file_of w slot)

@@ -1,17 +1,17 @@
 -- Two acts of a layer, one after the other.
-use Rattle.std.proofs.Common.{◌≡◌, ◌⊎◌, ◌<◌, ℕ, List, Option, refl, sym, ◌∙◌, ap, subst}
+use Rattle.std.proofs.Common.{◌≡◌, ◌⊎◌, ◌<◌, ℕ, List, Option, sym, ◌∙◌, ap, subst}
 use Rattle.cckd_shelf.specs.Outcomes.{EachOutcome, AtEach}
 use Rattle.cckd_shelf.specs.Seen.{Seen, Tells}
 use Rattle.cckd_shelf.specs.Frame.{OnlyIn}
 use Rattle.cckd_shelf.proofs.MomentLemmas.{joins, at_end}
 use Rattle.cckd_shelf.proofs.FrameLemmas.{only_twice}
 use Rattle.cckd_base.specs.declared.geometry.Layout.{Layout}
-use Rattle.cckd_base.specs.declared.entry.L2Entry.{L2Entry}
+use Rattle.cckd_base.specs.declared.space.Extent.{Extent}
 use Rattle.cckd_base.specs.Geometry.{track_count}
 use Rattle.cckd_tables.specs.Tables.{TableView}
 use Rattle.cckd_layer.specs.Held.{NullBytes, Tracks, Later, IsLater, AreSame, LiesWithin, Keeps}
 use Rattle.cckd_layer.specs.Mounted.{LayerState}
-use Rattle.cckd_layer.specs.Writes.{Agrees, AgreesAgain, KeepsMap, map_of, entry_now, IsSameLayer, IsCommitted, IsReleased, StopsWithin}
+use Rattle.cckd_layer.specs.Writes.{Agrees, AgreesAgain, KeepsMap, KeepsMapWith, with_plan, map_of, IsSameLayer, IsCommitted, IsReleased, StopsWithin}
 
 pub same_layer_twice : (a b c : LayerState) → IsSameLayer a b → IsSameLayer b c → IsSameLayer a c
 same_layer_twice a b c h k = record { slot = k.slot ∙ h.slot; header = k.header ∙ h.header; layout = k.layout ∙ h.layout; limit = k.limit ∙ h.limit }
@@ -69,3 +69,15 @@ within_twice null s m a b c tells same map h k d later told agrees within each =
 
 pub only_then : (slot other : ℕ) (a b c : Seen) → (Tells a → Tells b) → other ≡ slot → OnlyIn slot a b → OnlyIn other b c → OnlyIn slot a c
 only_then slot other a b c tells same h k = only_twice slot a b c tells h (subst (λ (n : ℕ). OnlyIn n b c) same k)
+
+-- two acts that change no more than the pieces, with their claims
+pub plans_twice : (before mid behind : List Extent) (null : NullBytes) (s m n : LayerState) (w : Seen) → m ≡ with_plan s m.plan → KeepsMapWith before mid null s m w w → KeepsMapWith mid behind null m n w w → KeepsMapWith before behind null s n w w
+plans_twice before mid behind null s m n w rest h k told a =
+    let layout : m.tables.layout ≡ s.tables.layout = ap (λ (x : LayerState). x.tables.layout) rest in
+    let first = h told a in
+    let again = k told first.agrees in
+    record {
+      agrees = again.agrees;
+      entries = λ t low. again.entries t (subst (λ (l : Layout). t < track_count l.geo) (sym layout) low) ∙ first.entries t low;
+      same = record { each = λ t low. again.same.each t (subst (λ (l : Layout). t < track_count l.geo) (sym layout) low) ∙ first.same.each t low };
+    }

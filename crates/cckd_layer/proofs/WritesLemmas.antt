@@ -1,25 +1,22 @@
 -- What holds of a layer once what was staged is committed.
-use Rattle.std.proofs.Common.{◌≡◌, ◌<◌, ◌≤◌, ℕ, List, [], map, true, Result, Ok, Err, OnOk, OnErr, refl, sym, ◌∙◌, ap, subst, inl, inr}
-use Rattle.cckd_shelf.specs.Events.{Event}
+use Rattle.std.proofs.Common.{◌≡◌, ℕ, List, [], Result, OnOk, OnErr, refl, sym, ◌∙◌, ap, subst}
 use Rattle.cckd_shelf.specs.World.{World, IsSure, file_of, after_sync}
-use Rattle.cckd_shelf.specs.Outcomes.{EachOutcome, AtEach}
+use Rattle.cckd_shelf.specs.Outcomes.{EachOutcome}
 use Rattle.cckd_shelf.specs.Seen.{Seen, Tells, Stays, Makes}
 use Rattle.cckd_shelf.specs.Stops.{StopsLeave}
-use Rattle.cckd_shelf.proofs.MomentLemmas.{weaker, synced, joins, at_end}
+use Rattle.cckd_shelf.proofs.MomentLemmas.{weaker, synced}
 use Rattle.cckd_shelf.specs.declared.fault.Failed.{Failed}
 use Rattle.cckd_base.specs.declared.geometry.Layout.{Layout}
 use Rattle.cckd_base.specs.declared.entry.L2Entry.{L2Entry}
 use Rattle.cckd_base.specs.Geometry.{track_count}
-use Rattle.cckd_space.specs.Plan.{Plan, IsSound}
 use Rattle.cckd_tables.specs.Staging.{Stages, new_entry}
 use Rattle.cckd_tables.specs.Tables.{TableView, AreOf}
 use Rattle.cckd_tables.specs.Looking.{IsTables}
 use Rattle.cckd_tables.specs.Commit.{MayLeave, IsBlended, IsCommittedFrom}
 use Rattle.cckd_tables.specs.Making.{Commits}
-use Rattle.cckd_tables.specs.Settling.{Settles}
 use Rattle.cckd_tables.proofs.StagedLemmas.{same_entry}
 use Rattle.cckd_tables.proofs.CommittedLemmas.{order_of}
-use Rattle.cckd_layer.specs.Held.{NullBytes, Tracks, Later, AreSame, LiesWithin, Keeps, Holds, held}
+use Rattle.cckd_layer.specs.Held.{NullBytes, Tracks, AreSame, Keeps, Holds, held}
 use Rattle.cckd_layer.specs.Stands.{LayerView, Stands, AreRising, nothing_staged}
 use Rattle.cckd_layer.specs.Marks.{FitsLayout}
 use Rattle.cckd_layer.specs.Mounted.{LayerState, kept_view}

@@ -1,5 +1,5 @@
 -- What the acts of a layer make of its pieces.
-use Rattle.std.specs.Prelude.{ℕ, ◌≡◌, ◌==◌, ◌<◌, ◌≤◌, nat_lt, nat_le, ◌&&◌, ◌||◌, min, max, if◌then◌else◌, List, [], ◌∷◌, ◌++◌, map, Option, Some, None, IsSome}
+use Rattle.std.specs.Prelude.{ℕ, ◌≡◌, ◌==◌, nat_lt, min, max, if◌then◌else◌, List, [], ◌∷◌, ◌++◌, map, Option, Some, None, IsSome}
 use Rattle.cckd_base.specs.declared.entry.L2Entry.{L2Entry}
 use Rattle.cckd_base.specs.declared.space.Extent.{Extent}
 use Rattle.cckd_base.specs.Entry.{see_parent}

@@ -1,5 +1,5 @@
 -- The chain of free spaces, as it is written into a file.
-use Rattle.std.specs.Prelude.{ℕ, ◌≡◌, ◌⊎◌, ◌+◌, ◌%◌, List, [], ◌∷◌, ◌++◌, filter, Result, Ok, Err}
+use Rattle.std.specs.Prelude.{ℕ, ◌≡◌, ◌⊎◌, ◌+◌, ◌%◌, List, [], ◌∷◌, ◌++◌, filter}
 use Rattle.std.specs.Int.{w32}
 use Rattle.cckd_base.specs.declared.order.Order.{Order}
 use Rattle.cckd_base.specs.Numbers.{bytes_of}

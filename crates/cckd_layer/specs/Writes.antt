@@ -1,5 +1,5 @@
 -- What writing makes of a layer, and what a stop leaves of it.
-use Rattle.std.specs.Prelude.{ℕ, ◌≡◌, ◌<◌, Bool, true, false, List, [], ◌∷◌, map, Option, IsNone, IsSome, Result, Ok, Err}
+use Rattle.std.specs.Prelude.{ℕ, ◌≡◌, ◌⊎◌, ◌<◌, Bool, true, false, List, [], ◌∷◌, map, Option, Some, None, IsNone, IsSome, Result, Err}
 use Rattle.cckd_shelf.specs.declared.fault.Faults.{Faults}
 use Rattle.cckd_shelf.specs.declared.fault.Kind.TheVariants.{Reads, Writes, Syncs}
 use Rattle.cckd_shelf.specs.Faults.{Raises}
@@ -8,6 +8,8 @@ use Rattle.cckd_shelf.specs.World.{World, file_of}
 use Rattle.cckd_shelf.specs.Outcomes.{EachOutcome, AtEach}
 use Rattle.cckd_base.specs.declared.layer_fault.LayerFault.{LayerFault}
 use Rattle.cckd_base.specs.declared.layer_fault.LayerFault.TheVariants as fault
+use Rattle.std.specs.Option.{is_some}
+use Rattle.cckd_base.specs.declared.space.Full.{Full}
 use Rattle.cckd_base.specs.declared.space.Extent.{Extent}
 use Rattle.cckd_base.specs.declared.entry.L2Entry.{L2Entry}
 use Rattle.cckd_base.specs.Geometry.{track_count}
@@ -26,6 +28,7 @@ use Rattle.cckd_layer.specs.Mounted.{LayerState, kept_view}
 use Rattle.cckd_layer.specs.Acts.{committed_pieces, left_at, MayGiveBack}
 use Rattle.cckd_base.specs.Image.{IsPlace}
 use Rattle.cckd_layer.specs.Current.{claim, CanBeEntry}
+use Rattle.cckd_layer.specs.Puts.{IsReserved, HasNoRoom}
 use Rattle.cckd_layer.specs.Marks.{FitsLayout}
 use Rattle.cckd_layer.specs.Chain.{opened_header}
 
@@ -192,3 +195,19 @@ pub record FreesOld (staged : Option L2Entry) (pos len : ℕ) (old new : Plan) :
   pub leaves : IsNone staged → Becomes old new (left_at pos old.pieces) old.size
   pub given : IsSome staged → IsPlace pos → MayGiveBack pos len old new
   pub kept : IsSome staged → (IsPlace pos → ⊥) → new ≡ old
+
+-- the places of a write: that of the group's new table, where it gets one, and that of the track's bytes
+abbrev pub table_claims : Option ℕ → List Extent
+table_claims (Some pos) = claim pos 2048 ∷ []
+table_claims None = []
+
+-- a new table has this place, or none was wanted
+abbrev pub HoldsTable : Option ℕ → Plan → Plan → Type 0
+HoldsTable (Some pos) old new = IsReserved 2048 old new
+HoldsTable None old new = new ≡ old
+
+-- a new table, where one is wanted, has no place, or so many bytes have none while that is held
+abbrev pub HaveNoPlaces : Bool → ℕ → Plan → Full → Type 0
+HaveNoPlaces wanted need plan full =
+    ((wanted ≡ true) × HasNoRoom 2048 plan full)
+    ⊎ ((table : Option ℕ) × (held : Plan) × (is_some table ≡ wanted) × HoldsTable table plan held × HasNoRoom need held full)

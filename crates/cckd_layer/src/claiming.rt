@@ -1,5 +1,6 @@
 //! Places that are claimed for what is to be written, and new tables that are staged.
-ghost use Rattle.std.specs.Prelude.{◌≡◌, ◌⊎◌, ◌+◌, ◌<◌, ◌≤◌, ◌/◌, ◌%◌, ◌∷◌, ℕ, List, length, None, IfOk, OnOk, IfErr, OnErr};
+ghost use Rattle.std.specs.Prelude.{◌≡◌, ◌⊎◌, ◌+◌, ◌<◌, ◌≤◌, ◌/◌, ◌%◌, [], ◌∷◌, ℕ, List, length, None, IfOk, OnOk, IfErr, OnErr, IsErr, true};
+ghost use Rattle.std.specs.Option.{is_some};
 ghost use Rattle.cckd_shelf.specs.Seen.{Seen};
 ghost use Rattle.cckd_base.specs.declared.space.Extent.{Extent as Space_of};
 ghost use Rattle.cckd_shelf.specs.World.{file_of};
@@ -13,12 +14,21 @@ ghost use Rattle.cckd_tables.specs.Looking.{HasAlignedTable};
 ghost use Rattle.cckd_layer.specs.Acts.{MayGiveBack};
 ghost use Rattle.cckd_layer.specs.Current.{claim};
 ghost use Rattle.cckd_layer.specs.Puts.{IsReserved, HasNoRoom};
-ghost use Rattle.cckd_layer.specs.Writes.{KeepsMapWith, CanStage, StoresIn, FreesOld, entry_now, with_plan, with_table, with_track};
+ghost use Rattle.cckd_layer.specs.Writes.{KeepsMapWith, CanStage, StoresIn, FreesOld, entry_now, HoldsTable, HaveNoPlaces, table_claims, with_plan, with_table, with_track};
 
 use crate::layer::Layer;
 use crate::staging::{give_place_back, leave_place};
-use cckd_base::{Full, L2Entry, SEE_PARENT, Track, Unit};
+use cckd_base::{Full, L2Entry, SEE_PARENT, TABLE_LEN, Track, Unit};
 use cckd_space::Space;
+
+/// The places of a write.
+#[derive(Clone, Copy)]
+pub(crate) struct Places {
+    /// That of the group's new table, where it gets one.
+    pub(crate) table: Option<u32>,
+    /// That of the track's bytes.
+    pub(crate) track: u32,
+}
 
 /// Lets the space at the position of a track's entry go: that of a staged one is given back, and any other leaves.
 fn free_old(space: &mut Space, staged: Option<L2Entry>, pos: u32, len: u32)
@@ -96,5 +106,67 @@ impl<U: Unit> Layer<U> {
         free_old(&mut self.space, staged, pos, len);
         self.tables.stage_entry(t, entry);
         self.hardened = false;
+    }
+
+    /// Claims a place for a new table, where one is wanted.
+    fn claim_table(&mut self, wanted: bool) -> Result<Option<u32>, Full>
+        requires spare { 2 ≤ self.old.plan.spare }
+        ensures rest { self.new ≡ with_plan self.old self.new.plan }
+        ensures map { (w : Seen) → IfOk result (λ table. KeepsMapWith [] (table_claims table) U.null_bytes self.old self.new w w) }
+        ensures wanted { IfOk result (λ table. is_some table ≡ wanted) }
+        ensures held { IfOk result (λ table. HoldsTable table self.old.plan self.new.plan) }
+        ensures asked { IsErr result → wanted ≡ true }
+        ensures full { IfErr result (HasNoRoom 2048 self.old.plan) }
+        ensures same { OnErr result (self.new ≡ self.old) }
+        ensures spent { self.old.plan.spare ≤ self.new.plan.spare + 2 }
+    {
+        if !wanted {
+            return Ok(None);
+        }
+        match self.claim_place(TABLE_LEN) {
+            Ok(pos) => Ok(Some(pos)),
+            Err(full) => Err(full),
+        }
+    }
+
+    /// Gives the place of a new table back, where there is one. The file is `len` bytes long.
+    fn unclaim_table(&mut self, table: Option<u32>, len: u32)
+        ensures rest { self.new ≡ with_plan self.old self.new.plan }
+        ensures map { (w : Seen) → len ≡ length (file_of w.world self.old.slot) → KeepsMapWith (table_claims table) [] U.null_bytes self.old self.new w w }
+        ensures spent { self.old.plan.spare ≤ self.new.plan.spare }
+    {
+        if let Some(pos) = table {
+            self.unclaim(pos, len);
+        }
+    }
+
+    /// Claims the places of a write of `need` bytes, all or none. The file is `len` bytes long.
+    pub(crate) fn claim_places(
+        &mut self,
+        need: u32,
+        with_table: bool,
+        len: u32,
+    ) -> Result<Places, Full>
+        requires need { IsNeed need }
+        requires spare { 4 ≤ self.old.plan.spare }
+        ensures rest { self.new ≡ with_plan self.old self.new.plan }
+        ensures wanted { IfOk result (λ places. is_some places.table ≡ with_table) }
+        ensures map { (w : Seen) → IfOk result (λ places. KeepsMapWith [] (claim places.track need ∷ table_claims places.table) U.null_bytes self.old self.new w w) }
+
+        // Where one has no place, the layer agrees with its file as before.
+        ensures full { IfErr result (HaveNoPlaces with_table need self.old.plan) }
+        ensures kept { (w : Seen) → len ≡ length (file_of w.world self.old.slot) → OnErr result (KeepsMapWith [] [] U.null_bytes self.old self.new w w) }
+    {
+        let table = match self.claim_table(with_table) {
+            Ok(table) => table,
+            Err(full) => return Err(full),
+        };
+        match self.claim_place(need) {
+            Ok(track) => Ok(Places { table, track }),
+            Err(full) => {
+                self.unclaim_table(table, len);
+                Err(full)
+            }
+        }
     }
 }

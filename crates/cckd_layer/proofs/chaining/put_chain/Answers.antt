@@ -1,10 +1,10 @@
-use Rattle.std.proofs.Common.{sym, ap, ◌∙◌, ◌≡◌, ◌≤◌, ◌+◌, ℕ, List, refl, arith}
+use Rattle.std.proofs.Common.{sym, ap, ◌∙◌, List, arith}
 use Rattle.cckd_shelf.specs.Seen.{seen}
 use Rattle.cckd_shelf.specs.World.{file_of}
 use Rattle.cckd_space.specs.declared.piece.Piece.{Piece}
 use Rattle.cckd_layer.specs.Chain.{chained}
 use Rattle.cckd_tables.proofs.TableLoopLemmas.{write_others}
-use Rattle.cckd_layer.proofs.ChainLemmas.{next_roomy, no_roomy, chain_stopped, chain_next, link_long, link_fits}
+use Rattle.cckd_layer.proofs.ChainLemmas.{next_roomy, no_roomy, chain_stopped, chain_next, link_fits}
 use Rattle.cckd_layer.proofs.chaining.put_chain.Goals as goal
 
 pub overflow_add-end : goal.overflow_add-end

@@ -2,9 +2,6 @@ use Rattle.cckd_shelf.specs.World.{file_of}
 use Rattle.cckd_layer.proofs.StandLemmas.{stands_sits}
 use Rattle.cckd_layer.proofs.CommitLemmas.{can_commit}
 use Rattle.cckd_layer.proofs.CommittedLemmas.{commit_keeps, stands_committed, committed_holds}
-use Rattle.cckd_layer.proofs.ClosedLemmas.{stands_closed}
-use Rattle.cckd_layer.proofs.RemarkedLemmas.{stands_marked}
-use Rattle.cckd_layer.proofs.StagedLemmas.{stands_staged}
 use Rattle.cckd_layer.proofs.laws.commits_stand.Goals as goal
 
 pub returns : goal.returns

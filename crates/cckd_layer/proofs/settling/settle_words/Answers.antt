@@ -1,4 +1,4 @@
-use Rattle.std.proofs.Common.{get_or, ◌∙◌, sym}
+use Rattle.std.proofs.Common.{◌∙◌}
 use Rattle.cckd_layer.proofs.ActLemmas.{words_next}
 use Rattle.cckd_layer.proofs.SpaceLemmas.{blank_word}
 use Rattle.cckd_layer.proofs.settling.settle_words.Goals as goal

@@ -1,6 +1,4 @@
-use Rattle.std.proofs.Common.{◌≡◌, ◌∷◌, List, IfOk, subst, arith}
-use Rattle.cckd_shelf.specs.Seen.{Seen}
-use Rattle.cckd_base.specs.declared.space.Extent.{Extent}
+use Rattle.std.proofs.Common.{◌∷◌, IfOk, subst, arith}
 use Rattle.cckd_layer.specs.Current.{claim}
 use Rattle.cckd_layer.specs.Mounted.{LayerState}
 use Rattle.cckd_layer.specs.Writes.{KeepsMapWith}

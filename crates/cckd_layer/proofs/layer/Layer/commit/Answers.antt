@@ -1,4 +1,4 @@
-use Rattle.std.proofs.Common.{◌≡◌, List, take, false, refl, ◌∙◌, subst}
+use Rattle.std.proofs.Common.{List, take, false, refl, ◌∙◌, subst}
 use Rattle.cckd_shelf.specs.Seen.{seen}
 use Rattle.cckd_tables.specs.declared.staged.StagedEntry.{StagedEntry}
 use Rattle.cckd_tables.specs.declared.staged.StagedWord.{StagedWord}

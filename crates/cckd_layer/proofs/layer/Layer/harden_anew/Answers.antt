@@ -1,9 +1,5 @@
-use Rattle.std.proofs.Common.{◌≡◌, refl, sym, ◌∙◌, ap, subst}
 use Rattle.cckd_shelf.specs.Seen.{seen}
-use Rattle.cckd_tables.specs.Tables.{TableView}
-use Rattle.cckd_layer.specs.Stands.{nothing_staged}
-use Rattle.cckd_layer.specs.Mounted.{LayerState}
-use Rattle.cckd_layer.proofs.StepLemmas.{committed_same, released_same, same_layer_twice, maps_twice, within_twice, only_then}
+use Rattle.cckd_layer.proofs.StepLemmas.{committed_same, within_twice, only_then}
 use Rattle.cckd_layer.proofs.layer.Layer.harden_anew.Goals as goal
 
 pub returns-in-Ok-clause-stopped : goal.returns-in-Ok-clause-stopped

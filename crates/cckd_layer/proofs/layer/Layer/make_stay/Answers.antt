@@ -1,4 +1,4 @@
-use Rattle.std.proofs.Common.{◌≡◌, true, refl, ◌∙◌, ap, subst}
+use Rattle.std.proofs.Common.{◌≡◌, true, refl, subst}
 use Rattle.cckd_shelf.specs.Seen.{seen}
 use Rattle.cckd_shelf.specs.Frame.{OnlyIn}
 use Rattle.cckd_shelf.proofs.FrameLemmas.{only_synced}

@@ -1,9 +1,8 @@
-use Rattle.std.proofs.Common.{◌≡◌, List, true, refl, sym, ◌∙◌, ap, subst}
+use Rattle.std.proofs.Common.{◌≡◌, List, true, sym, ap, subst}
 use Rattle.cckd_shelf.specs.Seen.{seen}
 use Rattle.cckd_base.specs.declared.space.Extent.{Extent}
 use Rattle.cckd_image.specs.declared.header.ImageHeader.{ImageHeader}
 use Rattle.cckd_layer.specs.Marks.{SpellsSecond}
-use Rattle.cckd_layer.specs.Chain.{opened_second, opened_header}
 use Rattle.cckd_layer.specs.Mounted.{LayerState}
 use Rattle.cckd_layer.specs.Writes.{StopsWithinWith, KeepsMapWith, AgreesAgainWith, marked_layer}
 use Rattle.cckd_layer.proofs.MarkLemmas.{mark_agrees, mark_within}

@@ -1,11 +1,11 @@
-use Rattle.std.proofs.Common.{◌≡◌, List, false, length, refl, ◌∙◌, ap, subst, arith}
+use Rattle.std.proofs.Common.{List, false, length, refl, subst}
 use Rattle.cckd_shelf.specs.Seen.{seen}
 use Rattle.cckd_shelf.specs.Frame.{OnlyIn}
 use Rattle.cckd_shelf.proofs.FrameLemmas.{only_wrote}
 use Rattle.cckd_base.specs.declared.space.Extent.{Extent}
 use Rattle.cckd_layer.specs.Current.{claim, IsAmong}
 use Rattle.cckd_layer.specs.Mounted.{LayerState}
-use Rattle.cckd_layer.specs.Writes.{StopsWithinWith, KeepsMapWith, IsPut}
+use Rattle.cckd_layer.specs.Writes.{StopsWithinWith, KeepsMapWith}
 use Rattle.cckd_layer.proofs.ReservedLemmas.{put_agrees, put_within}
 use Rattle.cckd_layer.proofs.layer.Layer.put_reserved.Goals as goal
 

@@ -1,4 +1,4 @@
-use Rattle.std.proofs.Common.{◌≡◌, ◌∷◌, ◌⊎◌, ◌<◌, ℕ, false, List, None, refl, sym, ◌∙◌, ap, subst, inl}
+use Rattle.std.proofs.Common.{◌≡◌, ◌∷◌, ◌<◌, ℕ, false, List, None, sym, subst, inl}
 use Rattle.cckd_shelf.specs.Seen.{Seen}
 use Rattle.cckd_base.specs.declared.space.Extent.{Extent}
 use Rattle.cckd_space.specs.Plan.{Becomes}
@@ -9,7 +9,7 @@ use Rattle.cckd_tables.specs.Looking.{HasAlignedTable}
 use Rattle.cckd_layer.specs.Current.{claim}
 use Rattle.cckd_layer.specs.Acts.{left_at}
 use Rattle.cckd_layer.specs.Mounted.{LayerState}
-use Rattle.cckd_layer.specs.Writes.{KeepsMapWith, AgreesAgainWith}
+use Rattle.cckd_layer.specs.Writes.{KeepsMapWith}
 use Rattle.cckd_layer.proofs.ClaimLemmas.{word_agrees, stages_word}
 use Rattle.cckd_layer.proofs.StageLemmas.{some_moved}
 use Rattle.cckd_layer.proofs.layer.Layer.stage_table.Goals as goal

@@ -1,4 +1,4 @@
-use Rattle.std.proofs.Common.{◌≡◌, ◌∷◌, ◌⊎◌, ◌<◌, ℕ, false, List, length, Option, refl, sym, ◌∙◌, ap, subst}
+use Rattle.std.proofs.Common.{◌≡◌, false, List, length, Option, sym, subst}
 use Rattle.cckd_shelf.specs.Seen.{Seen}
 use Rattle.cckd_shelf.specs.World.{file_of}
 use Rattle.cckd_base.specs.declared.entry.L2Entry.{L2Entry}
