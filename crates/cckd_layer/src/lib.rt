@@ -30,7 +30,9 @@ pub use cckd_tables::{Device, StagedEntry, StagedWord};
 pub use chaining::put_chain;
 pub use closing::close_image;
 pub use held::Held;
-pub use laws::{commits_stand, puts_stand, releases_stand};
+pub use laws::{
+    closes_stand, commits_stand, marks_stand, puts_stand, releases_stand, stages_stand,
+};
 pub use layer::Layer;
 pub use marking::{close_header, open_header, put_second, second_header};
 pub use placing::{PutFault, put_bytes};

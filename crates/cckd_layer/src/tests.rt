@@ -1,13 +1,17 @@
-//! Mounting and reading small images: a 2311 has 2,000 tracks in eight groups, and its header area ends at 1,056.
+//! Mounting, reading and closing small images: a 2311 has 2,000 tracks in eight groups, and its header area ends at 1,056.
 ghost use Rattle.std.specs.Prelude.{◌≡◌, ◌≤◌, false, length, vec_len, IfOk};
 ghost use Rattle.cckd_shelf.specs.Seen.{seen};
 ghost use Rattle.cckd_layer.specs.Mounted.{CanRead};
 
-use crate::{Held, Layer};
-use cckd_base::{FORMAT_LIMIT, HeaderFault, LayerFault, Misfit, OpenFault, Track, TrackFault};
-use cckd_image::Roles;
+use crate::{Device, Held, Layer, PutFault, close_image, open_header, put_bytes};
+use cckd_base::{
+    Extent, FORMAT_LIMIT, HeaderFault, LayerFault, Misfit, OpenFault, Order, Owner, Track,
+    TrackFault,
+};
+use cckd_image::{ImageHeader, Roles, decode};
 use cckd_memory::{Bytes, FileIn, MemoryStage};
 use cckd_shelf::{Shelf, Slot, Stage};
+use cckd_space::Space;
 use cckd_track::Ckd;
 use std::alloc::{AllocError, Global};
 use std::test::Fail;
@@ -248,5 +252,142 @@ fn each_cause_is_told(rt: HostRuntime) -> Result<(), Fail> {
     for (call, want) in refused {
         assert_eq!(rt; refusal_of(alloc, 3152, &[], &[call])?, want, "at {call}");
     }
+    Ok(())
+}
+
+/// A header area and a table, with 16 free bytes between them and 80 behind.
+fn gapped(alloc: Global) -> Result<Space, Fail> {
+    let used = [
+        Extent {
+            pos: 0,
+            len: 1056,
+            size: 1056,
+            owner: Owner::Header,
+        },
+        Extent {
+            pos: 1072,
+            len: 2048,
+            size: 2048,
+            owner: Owner::Table(0),
+        },
+    ];
+    Ok(Space::from_used(alloc, &used, 3200, 4096, 0)?)
+}
+
+/// What closing writes over zeros for this space: the second header, and two links.
+const CLOSED: [Patch<'static>; 4] = [
+    (
+        512,
+        b"\0\x03\x01\0\x08\0\0\0\0\x01\0\0\x80\x0c\0\0\x20\x0c\0\0\x20\x04\0\0\x60\0\0\0\x50\0\0\0\x02\0\0\0\0\0\0\0",
+    ),
+    (552, b"\xc8\0\0\0\0\0\xff\xff"),
+    (1056, b"\x30\x0c\0\0\x10\0\0\0"),
+    (3120, b"\0\0\0\0\x50\0\0\0"),
+];
+
+/// The headers of a 2311 that was opened.
+fn opened() -> Result<ImageHeader, Fail> {
+    let mut headers = [0; 1024];
+    patch(&mut headers, &RAW_2311);
+    match decode(&headers, 3200, Roles::Base) {
+        Ok(header) => Ok(open_header(&header)),
+        Err(_) => Err(Fail::new("no headers")),
+    }
+}
+
+#[test]
+fn a_closed_image_has_its_chain_and_totals(rt: HostRuntime) -> Result<(), Fail> {
+    let alloc = rt.alloc();
+    let zeroed = zeros(alloc, 3200)?;
+    let (mut stage, slot) = stage_of(alloc, zeroed.as_slice(), &[])?;
+    let space = gapped(alloc)?;
+    let header = opened()?;
+    assert_eq!(rt; header.cckd.options, 128);
+    let Ok(closed) = close_image(&mut stage, slot, &space, Order::Little, &header) else {
+        return Err(Fail::new("not closed"));
+    };
+    assert_eq!(rt; closed.cckd.options, 0);
+    assert_eq!(rt; closed.cckd.free, 1056);
+    assert_eq!(rt; stage.ops().len(), 5);
+    let mut want = zeros(alloc, 3200)?;
+    patch(want.as_mut_slice(), &CLOSED);
+    let Some(file) = stage.file("v") else {
+        return Err(Fail::new("no file"));
+    };
+    assert_eq!(rt; file.len(), 3200);
+    assert_eq!(rt; file.starts_with(want.as_slice()), true);
+    Ok(())
+}
+
+/// Why an image isn't closed where the call of this number fails.
+fn closing_fault(alloc: Global, failing: u64) -> Result<Option<Device>, Fail> {
+    let zeroed = zeros(alloc, 3200)?;
+    let (mut stage, slot) = stage_of(alloc, zeroed.as_slice(), &[failing])?;
+    let space = gapped(alloc)?;
+    let header = opened()?;
+    match close_image(&mut stage, slot, &space, Order::Little, &header) {
+        Ok(_) => Ok(None),
+        Err(fault) => Ok(Some(fault)),
+    }
+}
+
+#[test]
+fn a_fault_of_closing_is_told(rt: HostRuntime) -> Result<(), Fail> {
+    let alloc = rt.alloc();
+    let faults = [
+        (2, Some(Device::Write)),
+        (3, Some(Device::Write)),
+        (4, Some(Device::Sync)),
+        (5, Some(Device::Write)),
+        (6, Some(Device::Sync)),
+        (7, None),
+    ];
+    for (call, want) in faults {
+        assert_eq!(rt; closing_fault(alloc, call)?, want, "at {call}");
+    }
+    Ok(())
+}
+
+/// Puts 16 bytes.
+fn put_sixteen(
+    stage: &mut MemoryStage,
+    slot: Slot,
+    space: &mut Space,
+    bytes: &[u8; 16],
+) -> Result<Result<u32, PutFault>, Fail> {
+    space.grow(2)?;
+    Ok(put_bytes(stage, slot, space, bytes.as_slice()))
+}
+
+#[test]
+fn bytes_are_put_to_the_first_gap(rt: HostRuntime) -> Result<(), Fail> {
+    let alloc = rt.alloc();
+    let zeroed = zeros(alloc, 3200)?;
+    let (mut stage, slot) = stage_of(alloc, zeroed.as_slice(), &[])?;
+    let mut space = gapped(alloc)?;
+    let bytes = b"sixteen bytes it";
+    assert_eq!(rt; put_sixteen(&mut stage, slot, &mut space, bytes)?, Ok(1056));
+    assert_eq!(rt; put_sixteen(&mut stage, slot, &mut space, bytes)?, Ok(3120));
+    let mut want = zeros(alloc, 3200)?;
+    patch(want.as_mut_slice(), &[(1056, bytes), (3120, bytes)]);
+    let Some(file) = stage.file("v") else {
+        return Err(Fail::new("no file"));
+    };
+    assert_eq!(rt; file.starts_with(want.as_slice()), true);
+    Ok(())
+}
+
+#[test]
+fn a_place_stays_taken_where_the_write_fails(rt: HostRuntime) -> Result<(), Fail> {
+    let alloc = rt.alloc();
+    let zeroed = zeros(alloc, 3200)?;
+    let (mut stage, slot) = stage_of(alloc, zeroed.as_slice(), &[2])?;
+    let mut space = gapped(alloc)?;
+    let bytes = b"sixteen bytes it";
+    assert_eq!(rt;
+        put_sixteen(&mut stage, slot, &mut space, bytes)?,
+        Err(PutFault::Write)
+    );
+    assert_eq!(rt; put_sixteen(&mut stage, slot, &mut space, bytes)?, Ok(3120));
     Ok(())
 }

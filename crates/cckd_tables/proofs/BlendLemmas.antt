@@ -1,5 +1,5 @@
 -- A blend of a file with staged words and entries: writing one more keeps it one, and it is an image whose tracks are the old or the new ones.
-use Rattle.std.proofs.Common.{◌≡◌, ◌≢◌, ◌⊎◌, ℕ, ◌+◌, ◌*◌, ◌/◌, ◌%◌, ◌<◌, ◌≤◌, List, length, get_or, Some, None, refl, sym, ◌∙◌, ap, subst, inl, inr, arith}
+use Rattle.std.proofs.Common.{◌≡◌, ◌⊎◌, ℕ, ◌+◌, ◌*◌, ◌/◌, ◌%◌, ◌<◌, ◌≤◌, List, length, Some, None, refl, sym, ◌∙◌, ap, subst, inl, inr, arith}
 use Rattle.std.specs.Int.{w32}
 use Rattle.std.specs.Prelude.{is_some}
 use Rattle.std.proofs.lemmas.Bool.{cases_eq}
@@ -8,16 +8,16 @@ use Rattle.cckd_base.specs.declared.geometry.Layout.{Layout}
 use Rattle.cckd_base.specs.declared.entry.L2Entry.{L2Entry}
 use Rattle.cckd_base.specs.Numbers.{bytes_at, number_of}
 use Rattle.cckd_base.specs.Geometry.{track_count, area_of, IsLayout}
-use Rattle.cckd_base.specs.Entry.{word_at, entry_at, entry_of, entry_by_word, entry_in_table}
+use Rattle.cckd_base.specs.Entry.{word_at, entry_at, entry_of, entry_in_table}
 use Rattle.cckd_base.specs.Misfit.{table_misfit, entry_misfit}
 use Rattle.cckd_base.specs.Image.{IsPlace, ShareNoByte, IsImage}
-use Rattle.cckd_base.proofs.PlaceLemmas.{part_same, turned, table_inside, stored_inside, by_table}
-use Rattle.cckd_tables.specs.Staging.{Stages, entry_for, place_for, IsStaged, IsMoved, new_entry, new_word}
-use Rattle.cckd_tables.specs.Blend.{IsStill, Blend, IsCommitted}
-use Rattle.cckd_tables.specs.Commit.{AreApart, IsBeside, AreTablesApart, CanMove, CanBlend}
+use Rattle.cckd_base.proofs.PlaceLemmas.{part_same, turned, table_inside, stored_inside}
+use Rattle.cckd_tables.specs.Staging.{Stages, entry_for, place_for, IsMoved, new_entry, new_word}
+use Rattle.cckd_tables.specs.Blend.{IsStill, Blend}
+use Rattle.cckd_tables.specs.Commit.{AreApart, IsBeside, AreTablesApart, CanMove}
 use Rattle.cckd_tables.specs.Cells.{IsReady}
-use Rattle.cckd_tables.proofs.StagedLemmas.{some_of, new_entry_at, new_word_at, new_word_plain}
-use Rattle.cckd_tables.proofs.WrittenLemmas.{group_low, Reworded, reworded, Reentered, reentered}
+use Rattle.cckd_tables.proofs.StagedLemmas.{new_entry_at, new_word_at, new_word_plain}
+use Rattle.cckd_tables.proofs.WrittenLemmas.{group_low, reworded, Reentered, reentered}
 
 -- what holds of both, holds of one that is one of them
 pub pick : {X : Type 0} (P : X → Type 0) (a b x : X) → (x ≡ a) ⊎ (x ≡ b) → P a → P b → P x

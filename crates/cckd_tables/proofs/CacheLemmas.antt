@@ -1,13 +1,14 @@
 -- The cached tables as entries of a list by recency.
-use Rattle.std.proofs.Common.{◌≡◌, ◌≢◌, ◌⊎◌, inl, inr, ℕ, zero, suc, ◌+◌, ◌-◌, ◌<◌, ◌≤◌, ◌==◌, true, false, cond, List, [], ◌∷◌, ◌++◌, length, map, take, Option, Some, None, IsNone, IsSome, IfSome, refl, sym, ◌∙◌, ap, subst, arith}
+use Rattle.std.proofs.Common.{◌≡◌, inl, inr, ℕ, zero, suc, ◌-◌, ◌≤◌, true, false, List, [], ◌∷◌, length, map, take, Option, Some, None, IsSome, IfSome, refl, sym, ◌∙◌, ap, subst, arith}
 use Rattle.std.specs.List.{AllByRecursion, IsDistinct}
 use Rattle.std.specs.Bool.{nat_eq}
 use Rattle.std.specs.Option.{option_map, is_some}
+use Rattle.std.proofs.lemmas.List.{take_all, take-map}
 use Rattle.std.proofs.lemmas.Bool.Decides.{eqb_tells}
 use Rattle.cckd_frames.specs.Frames.{Entry, Kept, IsKept, frames, entry_of, entry_in, frame_of, without, IsUsed, promoted, holding, with_entries}
 use Rattle.cckd_frames.proofs.CallerLemmas.{key_of_entry}
 use Rattle.cckd_tables.specs.Tables.{CachedTable}
-use Rattle.cckd_tables.specs.Cached.{table_of, IsCached, tables_but, used_first, UsesTable, KeepsCached, tables_in, IsCache}
+use Rattle.cckd_tables.specs.Cached.{table_of, IsCached, tables_but, UsesTable, tables_in, IsCache}
 
 -- an entry as a table
 abbrev pub table_in : Entry → CachedTable
@@ -64,17 +65,6 @@ promoted_none g es none = rw (none, promoted) refl
 pub promoted_some : (g : ℕ) (es : List Entry) (e : Entry) → entry_of g es ≡ Some e → promoted g es ≡ e ∷ without g es
 promoted_some g es e some = rw (some, promoted) refl
 
-all_tables : {X Y : Type 0} (n : ℕ) (f : X → Y) (xs : List X) → map f (take n xs) ≡ take n (map f xs)
-all_tables zero f xs = refl
-all_tables (suc n) f [] = refl
-all_tables (suc n) f (x ∷ xs) = ap (λ l. f x ∷ l) (all_tables n f xs)
-
-all_of : {X : Type 0} (n : ℕ) (xs : List X) → length xs ≤ n → take n xs ≡ xs
-all_of zero [] l = refl
-all_of zero (x ∷ xs) l = absurd (omega arith)
-all_of (suc n) [] l = refl
-all_of (suc n) (x ∷ xs) l = ap (λ r. x ∷ r) (all_of n xs (omega arith))
-
 -- a table that is found comes first
 pub found_used : (g : ℕ) (es : List Entry) (e : Entry) → length es ≤ 64 → entry_of g es ≡ Some e → UsesTable g (tables_in es) (tables_in (promoted g es))
 found_used g es e few some =
@@ -83,7 +73,7 @@ found_used g es e few some =
     let count = but_one g (tables_in es) e.body here in
     let first : CachedTable = record { group = g; bytes = e.body } in
     let same_count : length (tables_in es) ≡ length es = length_tables es in
-    let whole : take 64 (first ∷ tables_but g (tables_in es)) ≡ first ∷ tables_but g (tables_in es) = all_of 64 (first ∷ tables_but g (tables_in es)) (omega arith) in
+    let whole : take 64 (first ∷ tables_but g (tables_in es)) ≡ first ∷ tables_but g (tables_in es) = take_all 64 (first ∷ tables_but g (tables_in es)) (omega arith) in
     record {
       bytes = e.body;
       first =
@@ -105,7 +95,7 @@ put_used f g bytes es none =
     let first : CachedTable = record { group = g; bytes = bytes } in
     record {
       bytes = bytes;
-      first = ap (λ (l : List CachedTable). first ∷ l) (all_tables 63 table_in es ∙ ap (λ (l : List CachedTable). take 63 l) (sym (but_none g (tables_in es) absent)));
+      first = ap (λ (l : List CachedTable). first ∷ l) (sym (take-map table_in 63 es) ∙ ap (λ (l : List CachedTable). take 63 l) (sym (but_none g (tables_in es) absent)));
       same = λ cached. absurd (let h = subst (λ (o : Option (List ℕ)). IsSome o) absent cached in cc);
     }
 
@@ -216,7 +206,7 @@ frame_whole f (e ∷ es) bytes is used all = elim (eqb_tells e.frame f) [
 ]
 
 -- the entry of a key has a value in each list of what its entries have
-entry_among_all : {X : Type 0} (h : Entry → X) (P : X → Type 0) (g : ℕ) (es : List Entry) (e : Entry) → entry_of g es ≡ Some e → AllByRecursion P (map h es) → P (h e)
+pub entry_among_all : {X : Type 0} (h : Entry → X) (P : X → Type 0) (g : ℕ) (es : List Entry) (e : Entry) → entry_of g es ≡ Some e → AllByRecursion P (map h es) → P (h e)
 entry_among_all h P g [] e some all = absurd cc
 entry_among_all h P g (x ∷ xs) e some all = elim (eqb_tells x.key g) [
   | inl t ↦ (let is : Some x ≡ Some e = (let s = rw t.0 at some in s) in let same : x ≡ e = cc in subst (λ (u : Entry). P (h u)) same all.0)

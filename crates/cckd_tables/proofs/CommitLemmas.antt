@@ -1,28 +1,25 @@
 -- A commit put together: its new tables and their sync, and then its words and entries.
-use Rattle.std.proofs.Common.{◌≡◌, ◌≢◌, ◌⊎◌, ℕ, ◌+◌, ◌*◌, ◌/◌, ◌%◌, ◌<◌, ◌≤◌, List, length, map, get_or, Some, Result, Ok, Err, OnOk, OnErr, refl, sym, ◌∙◌, ap, subst, inl, inr, arith}
+use Rattle.std.proofs.Common.{◌≡◌, ℕ, ◌+◌, ◌*◌, ◌/◌, ◌%◌, ◌<◌, ◌≤◌, List, length, get_or, Some, Ok, sym, ◌∙◌, ap, subst, inl, inr, arith}
 use Rattle.std.specs.Prelude.{is_some, slice_index}
-use Rattle.std.specs.List.{AllByRecursion}
 use Rattle.std.specs.List.Sorted.{IsStrictlyIncreasing}
 use Rattle.std.proofs.lemmas.List.{get_or-map, length-map}
-use Rattle.cckd_shelf.specs.declared.fault.Failed.{Failed}
 use Rattle.cckd_shelf.specs.Events.{Event}
 use Rattle.cckd_shelf.specs.World.{World, IsSure, file_of, after_sync}
-use Rattle.cckd_shelf.specs.Seen.{Seen, Tells, Stays, Makes}
-use Rattle.cckd_shelf.specs.Outcomes.{EachOutcome, AtEach}
+use Rattle.cckd_shelf.specs.Seen.{Seen, Tells, Makes}
+use Rattle.cckd_shelf.specs.Outcomes.{EachOutcome}
 use Rattle.cckd_shelf.specs.Stops.{StopLeaves, StopsLeave}
-use Rattle.cckd_shelf.proofs.MomentLemmas.{joins, at_end, weaker, then_synced, sync_alone}
+use Rattle.cckd_shelf.proofs.MomentLemmas.{joins, at_end, weaker, sync_alone}
 use Rattle.cckd_base.specs.declared.geometry.Layout.{Layout}
-use Rattle.cckd_base.specs.Geometry.{track_count, IsLayout}
+use Rattle.cckd_base.specs.Geometry.{IsLayout}
 use Rattle.cckd_base.specs.Numbers.{bytes_at}
-use Rattle.cckd_base.specs.Entry.{word_at, entry_of, entry_in_table}
+use Rattle.cckd_base.specs.Entry.{entry_of, entry_in_table}
 use Rattle.cckd_base.specs.Image.{ShareNoByte}
 use Rattle.cckd_tables.specs.declared.commit.Commit.{Commit}
-use Rattle.cckd_tables.specs.declared.staged.StagedEntry.{StagedEntry}
 use Rattle.cckd_tables.specs.declared.staged.StagedWord.{StagedWord}
-use Rattle.cckd_tables.specs.Staging.{Stages, place_for, IsMoved, new_word, new_entry}
+use Rattle.cckd_tables.specs.Staging.{Stages, place_for, IsMoved, new_word}
 use Rattle.cckd_tables.specs.Tables.{HasWords}
-use Rattle.cckd_tables.specs.Blend.{Near, HasNewTables, Blend, IsCommitted}
-use Rattle.cckd_tables.specs.Commit.{staged_groups, staged_places, stages_of, AreInOrder, AreSpelled, IsSynced, CanCommit, IsCommit, MayCommit, IsNearOutcome, IsBlended, IsCommittedFrom, MayLeave, IsSyncedNow}
+use Rattle.cckd_tables.specs.Blend.{Near, HasNewTables, Blend}
+use Rattle.cckd_tables.specs.Commit.{staged_groups, staged_places, stages_of, AreInOrder, AreSpelled, IsSynced, CanCommit, IsCommit, MayCommit, IsNearOutcome, IsBlended, MayLeave, IsSyncedNow}
 use Rattle.cckd_tables.specs.Cells.{IsReady, AreDisjoint, AreTablesWritten}
 use Rattle.cckd_tables.proofs.FileLemmas.{part_of_part}
 use Rattle.cckd_tables.proofs.StagedLemmas.{some_of, new_word_at, place_own, place_index, increasing_lt}

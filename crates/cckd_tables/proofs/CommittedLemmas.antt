@@ -1,42 +1,40 @@
 -- Tables in memory, once a commit is done, against the file that it left.
-use Rattle.std.proofs.Common.{◌≡◌, ◌≢◌, ◌⊎◌, inl, inr, ℕ, zero, suc, ◌+◌, ◌-◌, ◌*◌, ◌/◌, ◌%◌, ◌<◌, ◌≤◌, ◌==◌, true, false, cond, List, [], ◌∷◌, ◌++◌, length, map, take, drop, get_or, slice_index, slice_set, min, max, Option, Some, None, IsSome, is_some, unwrap_or, refl, sym, ◌∙◌, ap, subst, arith, get_or-set_same, get_or-set_other, length-append, length-take, length-drop}
+use Rattle.std.proofs.Common.{◌≡◌, ◌≢◌, inl, inr, ℕ, zero, suc, ◌+◌, ◌-◌, ◌*◌, ◌/◌, ◌%◌, ◌<◌, ◌≤◌, List, [], ◌∷◌, length, map, drop, get_or, slice_index, slice_set, min, Option, None, IsSome, is_some, unwrap_or, refl, sym, ◌∙◌, ap, subst, arith, get_or-set_same, get_or-set_other, length-take, length-drop}
 use Rattle.std.proofs.Math.ListN.{length-set}
 use Rattle.std.specs.List.{AllByRecursion}
 use Rattle.std.specs.List.Sorted.{IsStrictlyIncreasing}
-use Rattle.std.specs.Int.{w16, w32}
 use Rattle.std.proofs.lemmas.Bool.Decides.{eqb_tells}
 use Rattle.std.proofs.lemmas.Bool.{cases_lt}
-use Rattle.cckd_shelf.specs.Files.{overlaid}
 use Rattle.cckd_shelf.proofs.OutcomeLemmas.{length_overlaid}
 use Rattle.cckd_base.specs.declared.order.Order.{Order}
 use Rattle.cckd_base.specs.declared.order.Order.TheVariants.{Little, Big}
 use Rattle.cckd_base.specs.declared.geometry.Layout.{Layout}
 use Rattle.cckd_base.specs.declared.entry.L2Entry.{L2Entry}
-use Rattle.cckd_base.specs.Geometry.{track_count, area_of, IsLayout}
-use Rattle.cckd_base.specs.Numbers.{bytes_at, bytes_of}
-use Rattle.cckd_base.specs.Entry.{word_at, entry_of, entry_at, entry_bytes, entry_in_table}
+use Rattle.cckd_base.specs.Geometry.{track_count}
+use Rattle.cckd_base.specs.Numbers.{bytes_at}
+use Rattle.cckd_base.specs.Entry.{word_at, entry_of, entry_bytes, entry_in_table}
 use Rattle.cckd_base.specs.Image.{IsPlace, IsImage, ShareNoByte}
 use Rattle.cckd_base.proofs.PlaceLemmas.{table_inside}
 use Rattle.cckd_tables.specs.declared.staged.StagedEntry.{StagedEntry}
 use Rattle.cckd_tables.specs.declared.staged.StagedWord.{StagedWord}
 use Rattle.cckd_tables.specs.Staging.{Stages, IsMoved, entry_for, place_for, new_entry, new_word}
 use Rattle.cckd_tables.specs.Stages.{RiseFrom, AreStaged, none_staged}
-use Rattle.cckd_tables.specs.Tables.{CachedTable, TableView, HasWords, HasTables, IsCachedOf, AreOf}
+use Rattle.cckd_tables.specs.Tables.{CachedTable, TableView, IsCachedOf, AreOf}
 use Rattle.cckd_tables.specs.Looking.{IsTables, AreThere}
-use Rattle.cckd_tables.specs.Blend.{Blend, IsCommitted, AreBesideNew, with_put, put_over}
-use Rattle.cckd_tables.specs.Commit.{AreInOrder, IsSynced, IsCommittedFrom}
+use Rattle.cckd_tables.specs.Blend.{IsCommitted, with_put, put_over}
+use Rattle.cckd_tables.specs.Commit.{AreInOrder, IsSynced}
 use Rattle.cckd_tables.specs.Cells.{ArePutOver, entry_among, IsReady}
 use Rattle.cckd_tables.specs.Settling.{with_words, AreAllPutOver}
-use Rattle.cckd_tables.proofs.FileLemmas.{part_of_part}
 use Rattle.cckd_tables.proofs.PlacedLemmas.{none_below}
 use Rattle.cckd_tables.proofs.StageLemmas.{group_of, place_is_value}
 use Rattle.cckd_tables.proofs.StagedLemmas.{new_word_at, new_word_plain, moved_word, some_or_none}
-use Rattle.cckd_tables.proofs.WrittenLemmas.{part_stays, two_cells, group_low}
+use Rattle.cckd_tables.proofs.WrittenLemmas.{part_stays, two_cells}
 use Rattle.cckd_tables.proofs.BlendLemmas.{blend_image, new_table_bytes}
 use Rattle.cckd_tables.proofs.CommitLemmas.{ready_of}
 use Rattle.cckd_tables.proofs.FreshLemmas.{near_part, beside_each}
 use Rattle.cckd_tables.proofs.PutOverLemmas.{with_put_own, with_put_other}
-use Rattle.cckd_tables.proofs.LookLemmas.{entry_read, word_gives_table}
+use Rattle.cckd_tables.proofs.LookLemmas.{word_gives_table}
+use Rattle.cckd_tables.proofs.TableLemmas.{entry_read}
 
 -- words that are put one by one: each group has the staged one, or else its own
 pub with_words_at : (n : ℕ) (ss : List StagedWord) (words : List ℕ) (g : ℕ) → RiseFrom n (map group_of ss) → g < length words → slice_index (with_words ss words) g ≡ unwrap_or (place_for g ss) (slice_index words g)

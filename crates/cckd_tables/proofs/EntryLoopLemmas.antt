@@ -1,15 +1,14 @@
 -- Writing staged entries one after another, those of groups without a new table.
-use Rattle.std.proofs.Common.{◌≡◌, ◌≢◌, ◌⊎◌, ℕ, zero, suc, ◌+◌, ◌*◌, ◌/◌, ◌%◌, ◌<◌, ◌≤◌, ◌==◌, cond, List, [], ◌∷◌, ◌++◌, length, take, get_or, Option, Some, None, unwrap_or, Result, Ok, Err, OnOk, refl, sym, ◌∙◌, ap, subst, inl, inr, arith}
-use Rattle.std.specs.Prelude.{is_some, slice_index}
+use Rattle.std.proofs.Common.{◌≡◌, ◌≢◌, ℕ, zero, suc, ◌+◌, ◌*◌, ◌/◌, ◌%◌, ◌<◌, ◌==◌, cond, List, [], ◌∷◌, ◌++◌, length, take, get_or, Option, Some, None, refl, sym, ◌∙◌, ap, subst, inl, inr, arith}
+use Rattle.std.specs.Prelude.{is_some}
 use Rattle.std.specs.List.{AllByRecursion}
 use Rattle.std.specs.List.Sorted.{IsStrictlyIncreasing}
 use Rattle.std.proofs.lemmas.Bool.{cases_eq, cond-true, cond-false, eq-eqb, ne_eqb}
 use Rattle.std.proofs.lemmas.List.{take_all}
-use Rattle.cckd_shelf.specs.declared.fault.Failed.{Failed}
 use Rattle.cckd_shelf.specs.Files.{overlaid}
 use Rattle.cckd_shelf.specs.World.{file_of}
 use Rattle.cckd_shelf.specs.Seen.{Seen, Tells}
-use Rattle.cckd_shelf.specs.Outcomes.{WriteLeaves, EachOutcome}
+use Rattle.cckd_shelf.specs.Outcomes.{EachOutcome}
 use Rattle.cckd_shelf.specs.Stops.{StopLeaves, StopsLeave}
 use Rattle.cckd_shelf.specs.Events.{Event}
 use Rattle.cckd_shelf.proofs.MomentLemmas.{at_once, at_end, joins}
@@ -21,12 +20,11 @@ use Rattle.cckd_base.specs.Entry.{word_at, entry_at, entry_by_word, entry_bytes}
 use Rattle.cckd_base.specs.Image.{IsPlace}
 use Rattle.cckd_base.proofs.PlaceLemmas.{part_same, inside_second, table_inside, by_table}
 use Rattle.cckd_tables.specs.declared.staged.StagedEntry.{StagedEntry}
-use Rattle.cckd_tables.specs.declared.staged.StagedWord.{StagedWord}
 use Rattle.cckd_tables.specs.Staging.{Stages, entry_for, IsMoved, new_word, new_entry}
 use Rattle.cckd_tables.specs.Tables.{HasWords}
 use Rattle.cckd_tables.specs.Blend.{with_put, put_over, Blend, IsCommitted}
 use Rattle.cckd_tables.specs.Commit.{staged_tracks}
-use Rattle.cckd_tables.specs.Cells.{OneWrite, IsReady, AreWordsWritten, AreEntriesWritten, cell, IsEncoded}
+use Rattle.cckd_tables.specs.Cells.{IsReady, AreWordsWritten, AreEntriesWritten, IsEncoded}
 use Rattle.cckd_tables.proofs.StagedLemmas.{some_or_none, one_value, new_entry_at, new_entry_plain, entry_own, all_at}
 use Rattle.cckd_tables.proofs.WrittenLemmas.{group_low, part_stays}
 use Rattle.cckd_tables.proofs.BlendLemmas.{blend_entry, entry_written, new_table_stays}

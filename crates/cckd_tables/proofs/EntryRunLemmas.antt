@@ -1,9 +1,9 @@
 -- Several entries in one write: what it makes of a file is what one write after another would.
-use Rattle.std.proofs.Common.{◌≡◌, ◌≢◌, ◌⊎◌, ℕ, zero, suc, ◌+◌, ◌-◌, ◌*◌, ◌/◌, ◌%◌, ◌<◌, ◌≤◌, List, [], ◌∷◌, ◌++◌, length, take, drop, replicate, get_or, Option, Some, None, Result, Ok, refl, sym, ◌∙◌, ap, subst, inl, inr, arith}
+use Rattle.std.proofs.Common.{◌≡◌, ℕ, zero, suc, ◌+◌, ◌-◌, ◌*◌, ◌/◌, ◌%◌, ◌<◌, ◌≤◌, List, [], ◌∷◌, ◌++◌, length, take, drop, replicate, get_or, Result, Ok, refl, sym, ◌∙◌, ap, subst, inl, inr, arith}
 use Rattle.std.specs.Prelude.{is_some, slice_index}
 use Rattle.std.specs.List.{AllByRecursion}
 use Rattle.std.specs.List.Sorted.{IsStrictlyIncreasing}
-use Rattle.std.proofs.lemmas.List.{append_assoc, append-nil, take-append-drop, length-append, length-take, length-drop, length-map, get_or-map, take_at, drop_at, drop-drop, take_all}
+use Rattle.std.proofs.lemmas.List.{append_assoc, append-nil, take-append-drop, length-append, length-take, length-drop, length-map, get_or-map, take_at, drop_at, drop-drop}
 use Rattle.std.proofs.Math.Seq.{drop-cons}
 use Rattle.cckd_shelf.specs.declared.fault.Failed.{Failed}
 use Rattle.cckd_shelf.specs.Files.{overlaid}
@@ -15,7 +15,7 @@ use Rattle.cckd_shelf.proofs.MomentLemmas.{at_once}
 use Rattle.cckd_base.specs.declared.order.Order.{Order}
 use Rattle.cckd_base.specs.declared.geometry.Layout.{Layout}
 use Rattle.cckd_base.specs.Geometry.{track_count}
-use Rattle.cckd_base.specs.Entry.{word_at, entry_of, entry_bytes}
+use Rattle.cckd_base.specs.Entry.{word_at, entry_bytes}
 use Rattle.cckd_base.specs.Image.{IsPlace}
 use Rattle.cckd_base.proofs.PlaceLemmas.{table_inside}
 use Rattle.cckd_tables.specs.declared.staged.StagedEntry.{StagedEntry}

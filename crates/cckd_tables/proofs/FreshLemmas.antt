@@ -1,25 +1,22 @@
 -- What new tables leave of an image, and when a commit can be made: where what is staged shares no byte with what the file has.
-use Rattle.std.proofs.Common.{◌≡◌, ◌≢◌, ◌⊎◌, ℕ, zero, suc, ◌+◌, ◌*◌, ◌/◌, ◌%◌, ◌<◌, ◌≤◌, List, [], ◌∷◌, length, map, get_or, Option, Some, None, refl, sym, ◌∙◌, ap, subst, inl, inr, arith}
+use Rattle.std.proofs.Common.{◌≡◌, ◌≢◌, ℕ, suc, ◌+◌, ◌*◌, ◌/◌, ◌%◌, ◌<◌, ◌≤◌, List, [], ◌∷◌, length, get_or, Some, None, sym, ◌∙◌, ap, subst, inl, inr, arith}
 use Rattle.std.specs.Int.{w32}
-use Rattle.std.specs.Prelude.{is_some, slice_index}
+use Rattle.std.specs.Prelude.{is_some}
 use Rattle.std.specs.List.{AllByRecursion}
-use Rattle.std.specs.List.Sorted.{IsStrictlyIncreasing}
-use Rattle.cckd_base.specs.declared.geometry.Geometry.{Geometry}
 use Rattle.cckd_base.specs.declared.geometry.Layout.{Layout}
 use Rattle.cckd_base.specs.declared.entry.L2Entry.{L2Entry}
 use Rattle.cckd_base.specs.Numbers.{bytes_at, number_of}
 use Rattle.cckd_base.specs.Geometry.{track_count, area_of, IsLayout}
-use Rattle.cckd_base.specs.Entry.{word_at, entry_at, entry_by_word, entry_in_table, bytes_by_entry, stored_bytes}
+use Rattle.cckd_base.specs.Entry.{word_at, entry_at, entry_by_word, entry_in_table, bytes_by_entry}
 use Rattle.cckd_base.specs.Misfit.{table_misfit, entry_misfit}
 use Rattle.cckd_base.specs.Image.{IsPlace, ShareNoByte, IsImage}
 use Rattle.cckd_base.proofs.PlaceLemmas.{part_same, turned, table_inside, table_can_be, stored_inside, entry_longer, table_longer, by_word_same, bytes_stay}
 use Rattle.cckd_base.proofs.WriteLemmas.{StaysImage}
-use Rattle.cckd_tables.specs.declared.staged.StagedEntry.{StagedEntry}
 use Rattle.cckd_tables.specs.declared.staged.StagedWord.{StagedWord}
 use Rattle.cckd_tables.specs.Staging.{Stages, entry_for, place_for, IsStaged, IsMoved, new_entry, new_word}
-use Rattle.cckd_tables.specs.Blend.{AreBesideNew, Near, HasNewTables}
-use Rattle.cckd_tables.specs.Commit.{staged_groups, AreInOrder, AreApart, IsBeside, AreTablesApart, CanMove, CanBlend, IsSynced, CanCommit}
-use Rattle.cckd_tables.proofs.StagedLemmas.{some_of, new_entry_at, new_entry_plain, new_word_at, moved_word, same_entry, same_word, entry_case, word_case, place_own, place_index, all_at, some_or_none}
+use Rattle.cckd_tables.specs.Blend.{AreBesideNew, Near}
+use Rattle.cckd_tables.specs.Commit.{AreInOrder, AreApart, IsBeside, AreTablesApart, CanMove, CanBlend, CanCommit}
+use Rattle.cckd_tables.proofs.StagedLemmas.{some_of, new_word_at, moved_word, same_entry, entry_case, word_case, place_own, place_index, all_at}
 use Rattle.cckd_tables.proofs.WrittenLemmas.{group_low}
 
 -- ---- what new tables leave

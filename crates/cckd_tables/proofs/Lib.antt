@@ -25,8 +25,10 @@ pub mod EntryRunLemmas
 pub mod PutRunLemmas
 pub mod CommitLemmas
 pub mod TableLemmas
-pub mod MakingLemmas
-pub mod SettleLemmas
 pub mod FreshLemmas
 pub mod MixtureLemmas
+pub mod MakingLemmas
+pub mod SettleLemmas
+pub mod PlacesLemmas
 pub mod CommittedLemmas
+pub mod CallerLemmas

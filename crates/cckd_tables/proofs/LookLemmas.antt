@@ -1,5 +1,5 @@
 -- What is read of a file, against what the file has: words, tables and entries.
-use Rattle.std.proofs.Common.{◌≡◌, ◌≢◌, ◌⊎◌, inl, inr, ℕ, zero, suc, ◌+◌, ◌-◌, ◌*◌, ◌/◌, ◌%◌, ◌<◌, ◌≤◌, ◌==◌, true, false, cond, List, [], ◌∷◌, length, take, slice_index, Option, Some, None, IsNone, IsSome, Result, Ok, Err, OnOk, OnErr, IfOk, refl, sym, ◌∙◌, ap, subst, arith}
+use Rattle.std.proofs.Common.{◌≡◌, ◌≢◌, ◌⊎◌, inl, inr, ℕ, zero, suc, ◌*◌, ◌/◌, ◌%◌, ◌<◌, ◌≤◌, List, [], ◌∷◌, length, take, slice_index, Option, Some, None, IsNone, IsSome, Result, Ok, Err, OnOk, OnErr, IfOk, refl, sym, ◌∙◌, ap, subst, arith}
 use Rattle.std.specs.List.{AllByRecursion}
 use Rattle.std.specs.Option.{unwrap_or}
 use Rattle.std.specs.Int.{w32}
@@ -12,10 +12,13 @@ use Rattle.cckd_base.specs.Image.{IsPlace}
 use Rattle.cckd_base.specs.Geometry.{track_count, IsLayout}
 use Rattle.cckd_tables.specs.declared.device.Device.{Device}
 use Rattle.cckd_tables.specs.Staging.{entry_for, new_entry}
-use Rattle.cckd_tables.specs.Tables.{CachedTable, TableView, HasWords, HasTables, IsCachedOf, AreOf}
-use Rattle.cckd_tables.specs.Cached.{table_of, IsCached, tables_but, used_first, UsesTable, KeepsCached}
-use Rattle.cckd_tables.specs.Looking.{IsTables, with_cached}
+use Rattle.cckd_tables.specs.Tables.{CachedTable, TableView, HasWords, IsCachedOf, AreOf}
+use Rattle.cckd_tables.specs.Cached.{table_of, IsCached, tables_but, UsesTable, KeepsCached}
+use Rattle.cckd_tables.specs.Looking.{with_cached}
 use Rattle.cckd_tables.proofs.FileLemmas.{part_of_part}
+use Rattle.cckd_tables.proofs.TableLemmas.{entry_read}
+use Rattle.cckd_tables.proofs.CacheLemmas.{but_fewer}
+use Rattle.std.proofs.lemmas.List.{take_all}
 
 pub words_read : (l : Layout) (file bytes words : List ℕ) (at n : ℕ) → bytes ≡ bytes_at file at n → at ≡ 1024 → n ≡ 4 * l.groups
     → ((g : ℕ) → g < l.groups → slice_index words g ≡ number_at l.order w32 bytes (4 * g)) → HasWords l words file
@@ -59,11 +62,6 @@ used_has P g old new used own all =
 pub used_there : (g : ℕ) (old new : List CachedTable) (used : UsesTable g old new) → table_of g new ≡ Some used.bytes
 used_there g old new used =
     ap (λ (cs : List CachedTable). table_of g cs) used.first ∙ (elim (eqb_tells g g) [ inl t ↦ rw t.0 refl | inr t ↦ absurd (t.1 refl) ])
-
--- the entry in a table that was read
-pub entry_read : (l : Layout) (file table : List ℕ) (pos t : ℕ) → table ≡ bytes_at file pos 2048 → entry_of l.order (bytes_at table (8 * (t % 256)) 8) ≡ entry_in_table l file pos t
-entry_read l file table pos t is =
-    ap (entry_of l.order) (ap (λ (bs : List ℕ). bytes_at bs (8 * (t % 256)) 8) is ∙ part_of_part file pos 2048 (8 * (t % 256)) 8 (omega arith))
 
 -- the table that was used has the entries of the file's
 pub used_is : (v : TableView) (file : List ℕ) (g : ℕ) (new : List CachedTable) (used : UsesTable g v.cached new) → AreOf v file → g < v.layout.groups → IsPlace (slice_index v.words g)
@@ -160,16 +158,6 @@ one_leaves (suc n) h k (c ∷ cs) few ne one other = elim (eqb_tells c.group h) 
   ]
 ]
 
-but_count : (g : ℕ) (cs : List CachedTable) → length (tables_but g cs) ≤ length cs
-but_count g [] = omega arith
-but_count g (c ∷ cs) = let rest = but_count g cs in elim (eqb_tells c.group g) [ inl t ↦ rw t.0 (omega arith) | inr t ↦ rw t.0 (omega arith) ]
-
-front_all : (n : ℕ) (cs : List CachedTable) → length cs ≤ n → take n cs ≡ cs
-front_all zero [] l = refl
-front_all zero (c ∷ cs) l = absurd (omega arith)
-front_all (suc n) [] l = refl
-front_all (suc n) (c ∷ cs) l = ap (λ (r : List CachedTable). c ∷ r) (front_all n cs (omega arith))
-
 -- behind a table of another group a group finds what it found
 behind_other : (g h : ℕ) (bytes : List ℕ) (cs : List CachedTable) → h ≢ g → table_of h ((let c : CachedTable = record { group = g; bytes = bytes } in c) ∷ tables_but g cs) ≡ table_of h cs
 behind_other g h bytes cs ne = elim (eqb_tells g h) [ inl t ↦ absurd (ne (sym t.1)) | inr t ↦ rw t.0 (but_same g h cs ne) ]
@@ -178,7 +166,7 @@ pub used_keeps : (g : ℕ) (old new : List CachedTable) → length old ≤ 64 �
 used_keeps g old new few used =
     let first : CachedTable = record { group = g; bytes = used.bytes } in
     let all : List CachedTable = first ∷ tables_but g old in
-    let count = but_count g old in
+    let count = but_fewer g old in
     let back : (h : ℕ) → IsCached h (take 64 all) → IsCached h new = λ h some. subst (λ (cs : List CachedTable). IsCached h cs) (sym used.first) some in
     let stands : (h : ℕ) → h ≢ g → IsCached h old → IsCached h all = λ h ne some. subst (λ (o : Option (List ℕ)). IsSome o) (sym (behind_other g h used.bytes old ne)) some in
     let there : IsCached g new = subst (λ (o : Option (List ℕ)). IsSome o) (sym (used_there g old new used)) refl in
@@ -192,7 +180,7 @@ used_keeps g old new few used =
       none = λ room h some.
           (elim (eqb_tells h g) [
             | inl t ↦ subst (λ m. IsCached m new) (sym t.1) there
-            | inr t ↦ back h (subst (λ (cs : List CachedTable). IsCached h cs) (sym (front_all 64 all (omega arith))) (stands h t.1 some))
+            | inr t ↦ back h (subst (λ (cs : List CachedTable). IsCached h cs) (sym (take_all 64 all (omega arith))) (stands h t.1 some))
           ]);
     }
 

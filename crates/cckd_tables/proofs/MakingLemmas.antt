@@ -1,24 +1,21 @@
 -- The old and the new entries of a table that is made.
-use Rattle.std.proofs.Common.{◌≡◌, ◌≢◌, ◌⊎◌, inl, inr, ℕ, zero, suc, ◌+◌, ◌-◌, ◌*◌, ◌/◌, ◌%◌, ◌<◌, ◌≤◌, ◌==◌, true, false, cond, List, [], ◌∷◌, ◌++◌, length, take, drop, slice_index, Option, Some, None, Result, Ok, Err, unwrap_or, refl, sym, ◌∙◌, ap, subst, arith}
-use Rattle.std.specs.List.{AllByRecursion}
+use Rattle.std.proofs.Common.{◌≡◌, inl, inr, ℕ, zero, suc, ◌+◌, ◌*◌, ◌/◌, ◌%◌, ◌<◌, ◌≤◌, List, [], ◌∷◌, ◌++◌, length, slice_index, Some, unwrap_or, refl, sym, ◌∙◌, ap, subst, arith}
 use Rattle.std.proofs.lemmas.Bool.Decides.{eqb_tells}
 use Rattle.cckd_base.specs.declared.geometry.Layout.{Layout}
 use Rattle.cckd_base.specs.declared.entry.L2Entry.{L2Entry}
 use Rattle.cckd_base.specs.Numbers.{bytes_at}
-use Rattle.cckd_base.specs.Entry.{see_parent, word_at, entry_of, entry_at, entry_by_word, entry_in_table}
+use Rattle.cckd_base.specs.Entry.{word_at, entry_of, entry_at, entry_by_word, entry_in_table}
 use Rattle.cckd_base.specs.Image.{IsPlace}
-use Rattle.cckd_shelf.specs.declared.fault.Faults.{Faults}
 use Rattle.cckd_shelf.specs.Seen.{Seen, Tells, Stays}
 use Rattle.cckd_shelf.specs.World.{World, IsSure, file_of}
-use Rattle.cckd_tables.specs.declared.device.Device.{Device}
-use Rattle.cckd_tables.specs.Device.{OnlyLooks, CountsLook}
-use Rattle.cckd_tables.specs.Staging.{Stages, entry_for, new_entry}
+use Rattle.cckd_tables.specs.Staging.{Stages, entry_for}
 use Rattle.cckd_tables.specs.Commit.{staged_groups}
-use Rattle.cckd_tables.specs.Making.{AddsTable, AreMade, Looked}
+use Rattle.cckd_tables.specs.Making.{AddsTable, AreMade}
 use Rattle.cckd_tables.specs.Tables.{TableView, AreOf, IsCachedOf}
 use Rattle.cckd_tables.specs.Cached.{table_of}
 use Rattle.cckd_tables.specs.Cells.{entry_among}
-use Rattle.cckd_tables.proofs.LookLemmas.{cached_has, entry_read, word_gives_table}
+use Rattle.cckd_tables.proofs.LookLemmas.{cached_has, word_gives_table}
+use Rattle.cckd_tables.proofs.TableLemmas.{entry_read}
 
 -- a table that has the entries in the file's table has those that the file gives
 pub old_entry : (v : TableView) (file : List ℕ) (g word t : ℕ) (e : L2Entry) → AreOf v file → g < v.layout.groups → word ≡ slice_index v.words g → IsPlace word → t / 256 ≡ g

@@ -1,10 +1,9 @@
 -- What a commit may leave, for callers: images, each of whose tracks is the old one or the staged one.
-use Rattle.std.proofs.Common.{◌≡◌, ◌≢◌, ◌⊎◌, ℕ, ◌+◌, ◌*◌, ◌/◌, ◌<◌, ◌≤◌, List, length, Option, Some, refl, sym, ◌∙◌, ap, subst, inl, inr, arith}
+use Rattle.std.proofs.Common.{◌≡◌, ◌⊎◌, ℕ, ◌+◌, ◌/◌, ◌<◌, ◌≤◌, List, length, sym, ◌∙◌, ap, subst, inl, inr, arith}
 use Rattle.cckd_shelf.specs.Events.{Event}
-use Rattle.cckd_shelf.specs.Outcomes.{IsOutcome, EachOutcome}
+use Rattle.cckd_shelf.specs.Outcomes.{EachOutcome}
 use Rattle.cckd_base.specs.declared.geometry.Geometry.{Geometry}
 use Rattle.cckd_base.specs.declared.geometry.Layout.{Layout}
-use Rattle.cckd_base.specs.declared.entry.L2Entry.{L2Entry}
 use Rattle.cckd_base.specs.Numbers.{bytes_at}
 use Rattle.cckd_base.specs.Geometry.{track_count, area_of, IsLayout}
 use Rattle.cckd_base.specs.Entry.{word_at, entry_at, bytes_by_entry, stored_bytes}
@@ -13,7 +12,7 @@ use Rattle.cckd_base.proofs.PlaceLemmas.{part_same, table_inside, bytes_stay}
 use Rattle.cckd_base.proofs.WriteLemmas.{StaysImage}
 use Rattle.cckd_tables.specs.Staging.{Stages, new_entry, new_word}
 use Rattle.cckd_tables.specs.Blend.{AreBesideNew, Near, Blend, IsCommitted}
-use Rattle.cckd_tables.specs.Commit.{IsSynced, IsNearOutcome, IsBlended, IsCommittedFrom, MayLeave}
+use Rattle.cckd_tables.specs.Commit.{IsSynced, IsBlended, IsCommittedFrom, MayLeave}
 use Rattle.cckd_tables.specs.Cells.{IsReady}
 use Rattle.cckd_tables.proofs.StagedLemmas.{same_entry, same_word}
 use Rattle.cckd_tables.proofs.WrittenLemmas.{group_low}

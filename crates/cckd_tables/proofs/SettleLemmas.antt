@@ -1,15 +1,14 @@
 -- What staged words and entries make of words and cached tables.
-use Rattle.std.proofs.Common.{◌≡◌, ◌≢◌, ◌⊎◌, inl, inr, ℕ, zero, suc, ◌+◌, ◌-◌, ◌*◌, ◌/◌, ◌%◌, ◌<◌, ◌≤◌, ◌==◌, true, false, cond, List, [], ◌∷◌, ◌++◌, length, map, take, drop, get_or, slice_index, slice_set, Option, Some, None, unwrap_or, refl, sym, ◌∙◌, ap, subst, arith}
+use Rattle.std.proofs.Common.{◌≡◌, ◌≢◌, ◌⊎◌, inl, inr, ℕ, ◌+◌, ◌*◌, ◌/◌, ◌%◌, ◌<◌, true, false, List, [], ◌∷◌, ◌++◌, length, take, get_or, Some, None, refl, sym, ◌∙◌, ap, subst, arith}
 use Rattle.std.specs.List.{AllByRecursion, IsDistinct}
 use Rattle.std.specs.List.Sorted.{IsStrictlyIncreasing}
 use Rattle.std.specs.Bool.{nat_eq}
 use Rattle.std.proofs.lemmas.Bool.Decides.{eqb_tells}
 use Rattle.std.proofs.lemmas.List.{take_all, drop_all}
 use Rattle.cckd_base.specs.declared.order.Order.{Order}
-use Rattle.cckd_frames.specs.Frames.{Entry, Kept, IsKept, entry_of, frame_of, frames, keys, changed, refilled, with_entries, with_writes}
+use Rattle.cckd_frames.specs.Frames.{Entry, Kept, entry_of, frame_of, frames, keys, refilled, with_entries, with_writes}
 use Rattle.cckd_frames.proofs.CallerLemmas.{kept_written}
 use Rattle.cckd_tables.specs.declared.staged.StagedEntry.{StagedEntry}
-use Rattle.cckd_tables.specs.declared.staged.StagedWord.{StagedWord}
 use Rattle.cckd_tables.specs.Tables.{CachedTable}
 use Rattle.cckd_tables.specs.Cached.{IsCache, tables_in}
 use Rattle.cckd_tables.specs.Commit.{staged_tracks}
@@ -17,7 +16,7 @@ use Rattle.cckd_base.specs.Put.{IsPut}
 use Rattle.cckd_base.specs.Entry.{entry_bytes}
 use Rattle.cckd_tables.specs.Cells.{ArePutOver}
 use Rattle.cckd_tables.specs.Settling.{PutsEntry, AreAllPutOver}
-use Rattle.cckd_tables.proofs.CacheLemmas.{entry_of_frame, no_entry}
+use Rattle.cckd_tables.proofs.CacheLemmas.{entry_among_all, entry_of_frame, no_entry}
 use Rattle.cckd_tables.proofs.TableLemmas.{put_over_more, put_over_skip}
 
 -- as many other bytes come in the place of all
@@ -42,13 +41,6 @@ all_others : (f g : ℕ) (body : List ℕ) (es : List Entry) → AllByRecursion 
 all_others f g body [] a b = tt
 all_others f g body (e ∷ es) a b = (inr (differ f e.frame a.0, differ g e.key b.0), all_others f g body es a.1 b.1)
 
-has_part : {X : Type 0} (h : Entry → X) (P : X → Type 0) (g : ℕ) (es : List Entry) (e : Entry) → entry_of g es ≡ Some e → AllByRecursion P (map h es) → P (h e)
-has_part h P g [] e some all = absurd cc
-has_part h P g (x ∷ xs) e some all = elim (eqb_tells x.key g) [
-  | inl t ↦ (let is : Some x ≡ Some e = (let s = rw t.0 at some in s) in let same : x ≡ e = cc in subst (λ (u : Entry). P (h u)) same all.0)
-  | inr t ↦ has_part h P g xs e (let s = rw t.0 at some in s) all.1
-]
-
 -- where keys and frames are distinct, each entry is the one of this key, or of another frame and key
 all_one : (g : ℕ) (es : List Entry) (e : Entry) → IsDistinct nat_eq (frames es) → IsDistinct nat_eq (keys es) → entry_of g es ≡ Some e → AllByRecursion (IsOneOf e.frame g e.body) es
 unfolding IsDistinct
@@ -63,7 +55,7 @@ all_one g (x ∷ xs) e apart own some = elim (eqb_tells x.key g) [
       subst (λ (y : Entry). AllByRecursion (IsOneOf y.frame g y.body) (x ∷ xs)) same all)
   | inr t ↦ (
       let rest = let s = rw t.0 at some in s in
-      let other = differ x.frame e.frame (has_part (λ (y : Entry). y.frame) (λ f. nat_eq x.frame f ≡ false) g xs e rest apart.0) in
+      let other = differ x.frame e.frame (entry_among_all (λ (y : Entry). y.frame) (λ f. nat_eq x.frame f ≡ false) g xs e rest apart.0) in
       (inr ((λ is. other (sym is)), t.1), all_one g xs e apart.1 own.1 rest))
 ]
 

@@ -1,5 +1,5 @@
 -- What is staged for a track or a group, and the entry and the word that it makes.
-use Rattle.std.proofs.Common.{◌≡◌, ◌≢◌, ◌⊎◌, ℕ, zero, suc, ◌+◌, ◌<◌, ◌≤◌, ◌==◌, Bool, true, false, List, [], ◌∷◌, ◌++◌, length, map, take, drop, get_or, Option, Some, None, unwrap_or, refl, sym, ◌∙◌, ap, subst, inl, inr, arith}
+use Rattle.std.proofs.Common.{◌≡◌, ◌≢◌, ◌⊎◌, ℕ, zero, suc, ◌+◌, ◌<◌, ◌==◌, Bool, true, false, List, [], ◌∷◌, length, map, get_or, Option, Some, None, unwrap_or, refl, sym, ◌∙◌, ap, subst, inl, inr, arith}
 use Rattle.std.specs.Prelude.{is_some, slice_index}
 use Rattle.std.specs.List.{AllByRecursion}
 use Rattle.std.specs.List.Sorted.{IsStrictlyIncreasing}
@@ -11,7 +11,7 @@ use Rattle.cckd_base.specs.declared.entry.L2Entry.{L2Entry}
 use Rattle.cckd_base.specs.Entry.{word_at, entry_at}
 use Rattle.cckd_tables.specs.declared.staged.StagedEntry.{StagedEntry}
 use Rattle.cckd_tables.specs.declared.staged.StagedWord.{StagedWord}
-use Rattle.cckd_tables.specs.Staging.{Stages, entry_for, place_for, IsStaged, IsMoved, new_entry, new_word}
+use Rattle.cckd_tables.specs.Staging.{Stages, entry_for, place_for, IsMoved, new_entry, new_word}
 
 -- there is a value, or none
 pub some_or_none : {X : Type 0} (o : Option X) → ((x : X) × (o ≡ Some x)) ⊎ (o ≡ None)
@@ -147,3 +147,10 @@ true_not_false b e h = let k : false ≡ true = sym e ∙ h in cc
 -- the track at a place of a list
 pub track_of : (ss : List StagedEntry) (i : ℕ) (d : StagedEntry) → i < length ss → slice_index (map (λ s. s.track) ss) i ≡ (get_or ss i d).track
 track_of ss i d low = get_or-map (λ (s : StagedEntry). s.track) ss i d 0 low
+
+-- a group is moved, or isn't
+pub moved_or_not : (g : ℕ) (s : Stages) → IsMoved g s ⊎ (IsMoved g s → ⊥)
+moved_or_not g s = elim (some_or_none (place_for g s.words)) [
+  | inl h ↦ inl (ap is_some h.1)
+  | inr none ↦ inr (not_some (place_for g s.words) none)
+]

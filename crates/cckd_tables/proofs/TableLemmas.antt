@@ -1,5 +1,5 @@
 -- Entries that are put into a table.
-use Rattle.std.proofs.Common.{◌≡◌, ◌≢◌, ◌⊎◌, ℕ, ◌+◌, ◌*◌, ◌/◌, ◌%◌, ◌<◌, ◌≤◌, ◌==◌, cond, List, [], ◌∷◌, ◌++◌, length, take, drop, get_or, Option, Some, None, unwrap_or, refl, sym, ◌∙◌, ap, subst, inl, inr, arith}
+use Rattle.std.proofs.Common.{◌≡◌, ◌≢◌, ℕ, ◌+◌, ◌*◌, ◌/◌, ◌%◌, ◌<◌, ◌≤◌, ◌==◌, List, [], ◌∷◌, ◌++◌, length, take, drop, get_or, Option, Some, None, unwrap_or, refl, sym, ◌∙◌, ap, subst, inl, inr, arith}
 use Rattle.std.specs.List.Sorted.{IsStrictlyIncreasing}
 use Rattle.std.proofs.lemmas.Bool.{cases_eq, cases_lt, cond-true, cond-false, eq-eqb, ne_eqb}
 use Rattle.std.proofs.lemmas.List.{append_assoc, take_all}
@@ -10,7 +10,6 @@ use Rattle.cckd_base.specs.declared.entry.L2Entry.{L2Entry}
 use Rattle.cckd_base.specs.Numbers.{bytes_at}
 use Rattle.cckd_base.specs.Put.{IsPut}
 use Rattle.cckd_base.specs.Entry.{entry_at, entry_of, entry_bytes, entry_in_table}
-use Rattle.cckd_base.specs.Image.{ShareNoByte}
 use Rattle.cckd_base.proofs.PutLemmas.{put_is}
 use Rattle.cckd_tables.specs.declared.staged.StagedEntry.{StagedEntry}
 use Rattle.cckd_tables.specs.Staging.{Stages, entry_for, new_entry}
@@ -19,7 +18,7 @@ use Rattle.cckd_tables.specs.Commit.{staged_tracks}
 use Rattle.cckd_tables.specs.Cells.{IsEncoded, entry_among, ArePutOver}
 use Rattle.cckd_tables.proofs.FileLemmas.{part_of_part}
 use Rattle.cckd_tables.proofs.StagedLemmas.{one_value, entry_own}
-use Rattle.cckd_tables.proofs.WrittenLemmas.{part_stays, part_written, two_cells}
+use Rattle.cckd_tables.proofs.WrittenLemmas.{part_stays, part_written}
 use Rattle.cckd_tables.proofs.WordLoopLemmas.{one_more}
 use Rattle.cckd_tables.proofs.EntryLoopLemmas.{entry_in_front, entry_before}
 use Rattle.cckd_tables.proofs.PutOverLemmas.{with_put_own, with_put_other, put_over_next}

@@ -1,5 +1,5 @@
 -- Writing new tables one after another.
-use Rattle.std.proofs.Common.{◌≡◌, ◌⊎◌, ℕ, ◌+◌, ◌*◌, ◌<◌, ◌≤◌, List, length, take, drop, get_or, Result, Ok, Err, OnOk, OnErr, refl, sym, ◌∙◌, ap, subst, inl, inr, arith}
+use Rattle.std.proofs.Common.{◌≡◌, ℕ, ◌+◌, ◌*◌, ◌<◌, ◌≤◌, List, length, take, drop, get_or, Result, Ok, Err, refl, sym, ◌∙◌, ap, subst, inl, inr, arith}
 use Rattle.std.specs.Prelude.{slice_index}
 use Rattle.std.proofs.lemmas.Bool.{cases_lt}
 use Rattle.std.proofs.lemmas.List.{get_or-map, length-take, length-drop}
@@ -9,9 +9,9 @@ use Rattle.cckd_shelf.specs.declared.fault.Kind.{Kind}
 use Rattle.cckd_shelf.specs.Faults.{Raises}
 use Rattle.cckd_shelf.specs.Files.{overlaid}
 use Rattle.cckd_shelf.specs.Events.{Event}
-use Rattle.cckd_shelf.specs.World.{World, IsSure, file_of, after_write}
-use Rattle.cckd_shelf.specs.Seen.{Seen, Tells, Makes, Fails}
-use Rattle.cckd_shelf.specs.Outcomes.{WriteLeaves, EachOutcome, AtEach}
+use Rattle.cckd_shelf.specs.World.{IsSure, file_of}
+use Rattle.cckd_shelf.specs.Seen.{Seen, Tells, Fails}
+use Rattle.cckd_shelf.specs.Outcomes.{WriteLeaves, EachOutcome}
 use Rattle.cckd_shelf.specs.Stops.{StopsLeave}
 use Rattle.cckd_shelf.specs.Frame.{OnlyIn}
 use Rattle.cckd_shelf.proofs.MomentLemmas.{wrote, joins, at_end, at_once}
@@ -23,7 +23,7 @@ use Rattle.cckd_base.specs.Image.{ShareNoByte}
 use Rattle.cckd_tables.specs.declared.staged.StagedEntry.{StagedEntry}
 use Rattle.cckd_tables.specs.declared.staged.StagedWord.{StagedWord}
 use Rattle.cckd_tables.specs.Staging.{Stages}
-use Rattle.cckd_tables.specs.Blend.{AreBesideNew, Near}
+use Rattle.cckd_tables.specs.Blend.{Near}
 use Rattle.cckd_tables.specs.Commit.{staged_places, IsNearOutcome}
 use Rattle.cckd_tables.specs.Cells.{OneWrite, AreDisjoint, AreTablesWritten}
 use Rattle.cckd_tables.proofs.StagedLemmas.{all_at}

@@ -1,12 +1,12 @@
 -- What holds of each `Tables` after a change.
-use Rattle.std.proofs.Common.{◌≡◌, ◌⊎◌, ℕ, ◌<◌, List, length, refl, sym, subst}
+use Rattle.std.proofs.Common.{◌≡◌, ◌<◌, sym, subst}
 use Rattle.cckd_base.specs.Geometry.{track_count}
 use Rattle.cckd_tables.specs.declared.staged.StagedEntry.{StagedEntry}
 use Rattle.cckd_tables.specs.declared.staged.StagedWord.{StagedWord}
-use Rattle.cckd_tables.specs.Staging.{Stages, IsStaged, IsMoved}
-use Rattle.cckd_tables.specs.Stages.{AreStaged, free_count, with_entry, with_word}
-use Rattle.cckd_tables.specs.Tables.{TableView, CachedTable}
-use Rattle.cckd_tables.specs.Looking.{IsTables, AreThere, with_stages, with_cached}
+use Rattle.cckd_tables.specs.Staging.{Stages}
+use Rattle.cckd_tables.specs.Stages.{AreStaged, with_entry, with_word}
+use Rattle.cckd_tables.specs.Tables.{TableView}
+use Rattle.cckd_tables.specs.Looking.{IsTables, AreThere, with_stages}
 use Rattle.cckd_tables.proofs.PlacedLemmas.{all_placed}
 use Rattle.cckd_tables.proofs.StageLemmas.{track_of, group_of}
 

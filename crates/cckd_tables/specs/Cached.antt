@@ -1,5 +1,5 @@
 -- The cached tables: which are kept, and what the use of one does.
-use Rattle.std.specs.Prelude.{ℕ, ◌≡◌, ◌≢◌, ◌⊎◌, ◌<◌, ◌≤◌, ◌/◌, ◌==◌, if◌then◌else◌, List, [], ◌∷◌, length, map, take, slice_index, Option, Some, None, IsSome, Result, Ok, Err}
+use Rattle.std.specs.Prelude.{ℕ, ◌≡◌, ◌≢◌, ◌⊎◌, ◌<◌, ◌==◌, if◌then◌else◌, List, [], ◌∷◌, length, map, take, Option, Some, None, IsSome}
 use Rattle.std.specs.List.{AllByRecursion}
 use Rattle.cckd_frames.specs.Frames.{Entry, Kept, IsKept}
 use Rattle.cckd_tables.specs.Tables.{CachedTable}

@@ -14,7 +14,7 @@ use Rattle.cckd_shelf.specs.declared.fault.Kind.TheVariants.{Writes, Syncs}
 use Rattle.cckd_shelf.specs.Faults.{Raises}
 use Rattle.cckd_shelf.specs.Events.{Event}
 use Rattle.cckd_shelf.specs.World.{IsSure, file_of}
-use Rattle.cckd_shelf.specs.Outcomes.{IsOutcome, EachOutcome, AtEach}
+use Rattle.cckd_shelf.specs.Outcomes.{IsOutcome, EachOutcome}
 use Rattle.cckd_shelf.specs.Seen.{Seen, Tells}
 use Rattle.cckd_tables.specs.declared.commit.Commit.{Commit}
 use Rattle.cckd_tables.specs.declared.device.Device.{Device}
@@ -134,6 +134,11 @@ IsBlended l stages was file = (mid : List ℕ) × IsSynced l stages was mid × B
 -- and at its end all of them
 abbrev pub IsCommittedFrom : Layout → Stages → List ℕ → List ℕ → Type 0
 IsCommittedFrom l stages was file = (mid : List ℕ) × IsSynced l stages was mid × IsCommitted l mid stages file
+
+-- each table that a file names spells the new entries of the 256 places of its group
+abbrev pub SpellsNewEntries : Layout → Stages → List ℕ → List ℕ → Type 0
+SpellsNewEntries l stages was file =
+    (g t : ℕ) → g < l.groups → IsPlace (word_at l file g) → t / 256 ≡ g → entry_in_table l file (word_at l file g) t ≡ new_entry l stages was t
 
 -- what a stop may leave in a commit that began with these events and this file
 abbrev pub MayLeave : Layout → Stages → ℕ → List Event → List ℕ → List ℕ → Type 0

@@ -1,5 +1,5 @@
 -- What the new tables of a commit are made of, and what they spell.
-use Rattle.std.specs.Prelude.{◌≡◌, ℕ, ◌+◌, ◌*◌, ◌/◌, ◌<◌, List, [], ◌++◌, length, slice_index, unwrap_or}
+use Rattle.std.specs.Prelude.{◌≡◌, ℕ, ◌*◌, ◌/◌, ◌<◌, List, [], ◌++◌, length, slice_index, unwrap_or}
 use Rattle.std.specs.List.Sorted.{IsStrictlyIncreasing}
 use Rattle.cckd_base.specs.declared.geometry.Layout.{Layout}
 use Rattle.cckd_base.specs.Geometry.{IsLayout}
@@ -9,7 +9,7 @@ use Rattle.cckd_shelf.specs.World.{IsSure, file_of}
 use Rattle.cckd_tables.specs.declared.making.Making.{Making}
 use Rattle.cckd_tables.specs.declared.staged.StagedEntry.{StagedEntry}
 use Rattle.cckd_tables.specs.Staging.{Stages, entry_for, new_entry}
-use Rattle.cckd_tables.specs.Tables.{TableView, AreOf}
+use Rattle.cckd_tables.specs.Tables.{TableView}
 use Rattle.cckd_tables.specs.Cached.{IsCache, tables_in}
 use Rattle.cckd_tables.specs.Commit.{staged_tracks, staged_groups, CanCommit}
 use Rattle.cckd_tables.specs.Cells.{entry_among}

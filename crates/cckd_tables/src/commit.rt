@@ -1,23 +1,21 @@
 //! A commit: staged words and entries are written into the file of a slot.
-ghost use Rattle.std.specs.Prelude.{◌≡◌, ◌*◌, ◌<◌, ℕ, List, length, OnOk};
-ghost use Rattle.std.specs.List.{AllByRecursion};
-ghost use Rattle.std.specs.List.Sorted.{IsStrictlyIncreasing};
+ghost use Rattle.std.specs.Prelude.{◌≡◌, ◌<◌, ◌≤◌, ℕ, List, length, is_some, IfOk, OnOk};
 ghost use Rattle.cckd_shelf.specs.declared.fault.Kind.TheVariants.{Writes};
 ghost use Rattle.cckd_shelf.specs.World.{IsSure, file_of};
 ghost use Rattle.cckd_shelf.specs.Seen.{seen, Tells, Fails};
 ghost use Rattle.cckd_shelf.specs.Stops.{StopLeaves, StopsLeave};
 ghost use Rattle.cckd_shelf.specs.Frame.{OnlyIn};
-ghost use Rattle.cckd_tables.specs.declared.staged.StagedEntry.{StagedEntry as Entry};
-ghost use Rattle.cckd_tables.specs.Tables.{HasWords};
+ghost use Rattle.cckd_tables.specs.Staging.{place_for};
+ghost use Rattle.cckd_tables.specs.Tables.{HasWords, HasTables};
 ghost use Rattle.cckd_tables.specs.Blend.{Near, Blend, IsCommitted};
-ghost use Rattle.cckd_tables.specs.Commit.{staged_groups, IsNearOutcome, stages_of, IsCommit, MayCommit, MayLeave, IsBlended, IsCommittedFrom, IsSyncedNow, CountsCommit};
-ghost use Rattle.cckd_tables.specs.Cells.{AreDisjoint, AreTablesWritten, IsReady, AreWordsWritten};
+ghost use Rattle.cckd_tables.specs.Commit.{IsNearOutcome, stages_of, IsCommit, MayCommit, MayLeave, IsBlended, IsCommittedFrom, SpellsNewEntries, IsSyncedNow, CountsCommit};
+ghost use Rattle.cckd_tables.specs.Cells.{AreDisjoint, AreTablesWritten, IsReady, AreWordsWritten, AreEntriesWritten};
 
-use crate::cell::{write_table, write_word};
+use crate::cell::{cell, write_run, write_table, write_word};
 use crate::device::Device;
-use crate::entries::write_entries;
+use crate::run::run_len;
 use crate::staged::{StagedEntry, StagedWord};
-use cckd_base::{Layout, TABLE_LEN};
+use cckd_base::{GROUP_TRACKS, Layout, TABLE_LEN};
 use cckd_shelf::{Failed, Shelf, Slot};
 
 /// Staged words and entries, with what has to be known to write them.
@@ -50,6 +48,9 @@ impl Commit<'_> {
             (file_of (seen S.Shows shelf.old).world slot) (file_of (seen S.Shows shelf.new).world slot)) }
         ensures tables { MayCommit self.now slot (seen S.Shows shelf.old) → OnOk result (AreTablesWritten self.now.moved.now self.now.tables.now (length self.now.moved.now)
             (file_of (seen S.Shows shelf.new).world slot)) }
+        ensures spelled { MayCommit self.now slot (seen S.Shows shelf.old) → HasTables self.now.layout.now (file_of (seen S.Shows shelf.old).world slot)
+            → OnOk result (SpellsNewEntries self.now.layout.now (stages_of self.now)
+            (file_of (seen S.Shows shelf.old).world slot) (file_of (seen S.Shows shelf.new).world slot)) }
         ensures sure { Tells (seen S.Shows shelf.old) → IsSure (seen S.Shows shelf.old).world → OnOk result (IsSure (seen S.Shows shelf.new).world) }
         ensures others { OnlyIn slot (seen S.Shows shelf.old) (seen S.Shows shelf.new) }
         ensures counts { CountsCommit result (seen S.Shows shelf.old).faults (seen S.Shows shelf.new).faults }
@@ -73,7 +74,7 @@ impl Commit<'_> {
         ensures others { OnlyIn slot (seen S.Shows shelf.old) (seen S.Shows shelf.new) }
         ensures counts { CountsCommit result (seen S.Shows shelf.old).faults (seen S.Shows shelf.new).faults }
     {
-        let Ok(()) = write_tables(shelf, slot, self.moved, self.tables) else {
+        let Ok(()) = self.write_tables(shelf, slot) else {
             return Err(Device::Write);
         };
         let synced = shelf.sync(slot);
@@ -96,68 +97,110 @@ impl Commit<'_> {
         ensures others { OnlyIn slot (seen S.Shows shelf.old) (seen S.Shows shelf.new) }
         ensures fails { Fails Writes result (seen S.Shows shelf.old) (seen S.Shows shelf.new) }
     {
-        write_words(shelf, slot, self.layout, self.moved)?;
-        write_entries(
-            shelf,
-            slot,
-            self.layout,
-            self.words,
-            self.moved,
-            self.entries,
-        )
+        self.write_words(shelf, slot)?;
+        self.write_entries(shelf, slot)
+    }
+
+    /// Writes the staged entries that go in one write from one of them on, or passes over that one where its group has
+    /// a new table, and answers which one comes next.
+    fn write_next<S: Shelf>(&self, shelf: &mut S, slot: Slot, first: usize) -> Result<usize, Failed>
+        requires commit { IsCommit self.now }
+        requires first { first < length self.now.entries.now }
+        ensures next { IfOk result (λ next. (first < next) × (next ≤ length self.now.entries.now)) }
+        ensures stopped { (was : List ℕ) → IsReady self.now.layout.now (stages_of self.now) was → HasWords self.now.layout.now self.now.words.now was
+            → StopLeaves slot (Blend self.now.layout.now was (stages_of self.now)) (seen S.Shows shelf.old)
+            → StopsLeave slot (Blend self.now.layout.now was (stages_of self.now)) (seen S.Shows shelf.old) (seen S.Shows shelf.new) }
+        ensures now { IfOk result (λ next. (was : List ℕ) → IsReady self.now.layout.now (stages_of self.now) was → HasWords self.now.layout.now self.now.words.now was
+            → Tells (seen S.Shows shelf.old)
+            → AreEntriesWritten self.now.layout.now was (stages_of self.now) first (file_of (seen S.Shows shelf.old).world slot)
+            → AreEntriesWritten self.now.layout.now was (stages_of self.now) next (file_of (seen S.Shows shelf.new).world slot)) }
+        ensures sure { Tells (seen S.Shows shelf.old) → IsSure (seen S.Shows shelf.old).world → OnOk result (IsSure (seen S.Shows shelf.new).world) }
+        ensures others { OnlyIn slot (seen S.Shows shelf.old) (seen S.Shows shelf.new) }
+        ensures fails { Fails Writes result (seen S.Shows shelf.old) (seen S.Shows shelf.new) }
+    {
+        let track = self.entries[first].track;
+        if is_moved(self.moved, track / GROUP_TRACKS) {
+            return Ok(first + 1);
+        }
+        let at = cell(self.words, track);
+        let count = run_len(at, self.entries, first);
+        let run = &self.entries[first..first + count];
+        write_run(shelf, slot, self.layout.order, at, run)?;
+        Ok(first + count)
+    }
+
+    /// Writes the staged entries of groups without a new table.
+    fn write_entries<S: Shelf>(&self, shelf: &mut S, slot: Slot) -> Result<(), Failed>
+        requires { IsCommit self.now }
+        ensures stopped { (was : List ℕ) → IsReady self.now.layout.now (stages_of self.now) was → HasWords self.now.layout.now self.now.words.now was
+            → StopLeaves slot (Blend self.now.layout.now was (stages_of self.now)) (seen S.Shows shelf.old)
+            → StopsLeave slot (Blend self.now.layout.now was (stages_of self.now)) (seen S.Shows shelf.old) (seen S.Shows shelf.new) }
+        ensures now { (was : List ℕ) → IsReady self.now.layout.now (stages_of self.now) was → HasWords self.now.layout.now self.now.words.now was
+            → Tells (seen S.Shows shelf.old)
+            → AreEntriesWritten self.now.layout.now was (stages_of self.now) 0 (file_of (seen S.Shows shelf.old).world slot)
+            → OnOk result (AreEntriesWritten self.now.layout.now was (stages_of self.now) (length self.now.entries.now) (file_of (seen S.Shows shelf.new).world slot)) }
+        ensures sure { Tells (seen S.Shows shelf.old) → IsSure (seen S.Shows shelf.old).world → OnOk result (IsSure (seen S.Shows shelf.new).world) }
+        ensures others { OnlyIn slot (seen S.Shows shelf.old) (seen S.Shows shelf.new) }
+        ensures fails { Fails Writes result (seen S.Shows shelf.old) (seen S.Shows shelf.new) }
+    {
+        let mut next = 0;
+        while next < self.entries.len() {
+            next = self.write_next(shelf, slot, next)?;
+        }
+        Ok(())
+    }
+
+    /// Writes the new tables to their places.
+    fn write_tables<S: Shelf>(&self, shelf: &mut S, slot: Slot) -> Result<(), Failed>
+        requires { IsCommit self.now }
+        ensures stopped { StopsLeave slot (IsNearOutcome (stages_of self.now) slot (seen S.Shows shelf.old).world.events)
+            (seen S.Shows shelf.old) (seen S.Shows shelf.new) }
+        ensures near { Tells (seen S.Shows shelf.old) → OnOk result (Near (stages_of self.now)
+            (file_of (seen S.Shows shelf.old).world slot) (file_of (seen S.Shows shelf.new).world slot)) }
+        ensures now { Tells (seen S.Shows shelf.old) → AreDisjoint self.now.moved.now
+            → OnOk result (AreTablesWritten self.now.moved.now self.now.tables.now (length self.now.moved.now)
+            (file_of (seen S.Shows shelf.new).world slot)) }
+        ensures sure { Tells (seen S.Shows shelf.old) → IsSure (seen S.Shows shelf.old).world → OnOk result (IsSure (seen S.Shows shelf.new).world) }
+        ensures others { OnlyIn slot (seen S.Shows shelf.old) (seen S.Shows shelf.new) }
+        ensures fails { Fails Writes result (seen S.Shows shelf.old) (seen S.Shows shelf.new) }
+    {
+        for i in 0..self.moved.len() {
+            let at = i * TABLE_LEN as usize;
+            let table = &self.tables[at..at + TABLE_LEN as usize];
+            write_table(shelf, slot, self.moved[i].pos, table)?;
+        }
+        Ok(())
+    }
+
+    /// Writes the staged words.
+    fn write_words<S: Shelf>(&self, shelf: &mut S, slot: Slot) -> Result<(), Failed>
+        requires { IsCommit self.now }
+        ensures stopped { (was : List ℕ) → IsReady self.now.layout.now (stages_of self.now) was
+            → StopLeaves slot (Blend self.now.layout.now was (stages_of self.now)) (seen S.Shows shelf.old)
+            → StopsLeave slot (Blend self.now.layout.now was (stages_of self.now)) (seen S.Shows shelf.old) (seen S.Shows shelf.new) }
+        ensures now { (was : List ℕ) → IsReady self.now.layout.now (stages_of self.now) was → Tells (seen S.Shows shelf.old)
+            → file_of (seen S.Shows shelf.old).world slot ≡ was
+            → OnOk result (AreWordsWritten self.now.layout.now was (stages_of self.now) (length self.now.moved.now)
+            (file_of (seen S.Shows shelf.new).world slot)) }
+        ensures sure { Tells (seen S.Shows shelf.old) → IsSure (seen S.Shows shelf.old).world → OnOk result (IsSure (seen S.Shows shelf.new).world) }
+        ensures others { OnlyIn slot (seen S.Shows shelf.old) (seen S.Shows shelf.new) }
+        ensures fails { Fails Writes result (seen S.Shows shelf.old) (seen S.Shows shelf.new) }
+    {
+        for word in self.moved {
+            write_word(shelf, slot, self.layout.order, *word)?;
+        }
+        Ok(())
     }
 }
 
-/// Writes the new tables to their places, of each word 2,048 bytes.
-pub(crate) fn write_tables<S: Shelf>(
-    shelf: &mut S,
-    slot: Slot,
-    words: &[StagedWord],
-    tables: &[u8],
-) -> Result<(), Failed>
-    requires { length tables.now ≡ 2048 * length words.now }
-    ensures stopped { (entries : List Entry) → StopsLeave slot (IsNearOutcome (record { entries = entries; words = words.now }) slot (seen S.Shows shelf.old).world.events)
-        (seen S.Shows shelf.old) (seen S.Shows shelf.new) }
-    ensures near { (entries : List Entry) → Tells (seen S.Shows shelf.old) → OnOk result (Near (record { entries = entries; words = words.now })
-        (file_of (seen S.Shows shelf.old).world slot) (file_of (seen S.Shows shelf.new).world slot)) }
-    ensures now { Tells (seen S.Shows shelf.old) → AreDisjoint words.now → OnOk result (AreTablesWritten words.now tables.now (length words.now) (file_of (seen S.Shows shelf.new).world slot)) }
-    ensures sure { Tells (seen S.Shows shelf.old) → IsSure (seen S.Shows shelf.old).world → OnOk result (IsSure (seen S.Shows shelf.new).world) }
-    ensures others { OnlyIn slot (seen S.Shows shelf.old) (seen S.Shows shelf.new) }
-    ensures fails { Fails Writes result (seen S.Shows shelf.old) (seen S.Shows shelf.new) }
-{
-    for i in 0..words.len() {
-        let at = i * TABLE_LEN as usize;
-        write_table(
-            shelf,
-            slot,
-            words[i].pos,
-            &tables[at..at + TABLE_LEN as usize],
-        )?;
-    }
-    Ok(())
-}
-
-/// Writes the staged words.
-pub(crate) fn write_words<S: Shelf>(
-    shelf: &mut S,
-    slot: Slot,
-    l: &Layout,
-    words: &[StagedWord],
-) -> Result<(), Failed>
-    requires order { IsStrictlyIncreasing (staged_groups words.now) }
-    requires there { AllByRecursion (λ s. s.group < l.now.groups) words.now }
-    ensures stopped { (was : List ℕ) (entries : List Entry) → IsReady l.now (record { entries = entries; words = words.now }) was
-        → StopLeaves slot (Blend l.now was (record { entries = entries; words = words.now })) (seen S.Shows shelf.old)
-        → StopsLeave slot (Blend l.now was (record { entries = entries; words = words.now })) (seen S.Shows shelf.old) (seen S.Shows shelf.new) }
-    ensures now { (was : List ℕ) (entries : List Entry) → IsReady l.now (record { entries = entries; words = words.now }) was → Tells (seen S.Shows shelf.old)
-        → file_of (seen S.Shows shelf.old).world slot ≡ was
-        → OnOk result (AreWordsWritten l.now was (record { entries = entries; words = words.now }) (length words.now) (file_of (seen S.Shows shelf.new).world slot)) }
-    ensures sure { Tells (seen S.Shows shelf.old) → IsSure (seen S.Shows shelf.old).world → OnOk result (IsSure (seen S.Shows shelf.new).world) }
-    ensures others { OnlyIn slot (seen S.Shows shelf.old) (seen S.Shows shelf.new) }
-    ensures fails { Fails Writes result (seen S.Shows shelf.old) (seen S.Shows shelf.new) }
+/// Whether a group has a new table.
+fn is_moved(words: &[StagedWord], group: u32) -> bool
+    ensures { result ≡ is_some (place_for group words.now) }
 {
     for word in words {
-        write_word(shelf, slot, l.order, *word)?;
+        if word.group == group {
+            return true;
+        }
     }
-    Ok(())
+    false
 }

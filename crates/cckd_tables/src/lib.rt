@@ -5,17 +5,19 @@ mod cache;
 mod cell;
 mod commit;
 mod device;
-mod entries;
 mod item;
 mod kept;
 mod making;
 mod progress;
 mod read;
+mod run;
 mod settling;
 mod staged;
 mod stages;
 mod surveyed;
 mod table;
+#[cfg(test)]
+mod table_tests;
 mod tables;
 #[cfg(test)]
 mod tests;

@@ -1,5 +1,6 @@
 //! Surveys of small images: a 2311 has 2,000 tracks in eight groups, and its header area ends at 1,056.
-ghost use Rattle.cckd_base.specs.Geometry.{IsLayout};
+ghost use Rattle.std.specs.Prelude.{◌≡◌};
+ghost use Rattle.cckd_base.specs.Geometry.{track_count, IsLayout};
 
 use crate::{SurveyFault, Surveyed, scan, survey};
 use cckd_base::{Extent, Geometry, L2Entry, Layout, Misfit, Order, Owner, ScanFault};
@@ -15,8 +16,10 @@ const HEADER: Extent = Extent {
     owner: Owner::Header,
 };
 
-fn small(order: Order, shadow: bool) -> Layout
-    ensures { IsLayout result }
+pub(crate) fn small(order: Order, shadow: bool) -> Layout
+    ensures layout { IsLayout result }
+    ensures tracks { track_count result.geo ≡ 2000 }
+    ensures groups { result.groups ≡ 8 }
 {
     Layout {
         order,
@@ -50,7 +53,7 @@ fn track(t: u32, pos: u32, len: u32, size: u32) -> Extent {
     }
 }
 
-fn entry(pos: u32, len: u16, size: u16) -> L2Entry {
+pub(crate) fn entry(pos: u32, len: u16, size: u16) -> L2Entry {
     L2Entry { pos, len, size }
 }
 
@@ -68,10 +71,10 @@ fn overlap(first: Extent, second: Extent) -> Misfit {
 
 /// An image of `len` bytes: level-one words by their group, and entries by their place in the file.
 #[derive(Clone, Copy)]
-struct Image<'a> {
-    len: usize,
-    words: &'a [(u16, u32)],
-    entries: &'a [(usize, L2Entry)],
+pub(crate) struct Image<'a> {
+    pub(crate) len: usize,
+    pub(crate) words: &'a [(u16, u32)],
+    pub(crate) entries: &'a [(usize, L2Entry)],
 }
 
 /// Puts bytes over those of a file, as far as it reaches.
@@ -94,7 +97,7 @@ fn bytes_of(alloc: Global, order: Order, image: &Image) -> Result<Vec<u8>, Fail>
 }
 
 /// A stage with the image in slot 0, where the calls of these numbers fail: the first binds the slot.
-fn stage_of(
+pub(crate) fn stage_of(
     alloc: Global,
     order: Order,
     image: &Image,

@@ -1,8 +1,6 @@
-use Rattle.std.proofs.Common.{◌≡◌, ℕ, List, [], length, Option, Some, None, IsNone, IsSome, refl, sym, ◌∙◌, ap, subst}
-use Rattle.std.specs.Option.{unwrap_or}
-use Rattle.cckd_frames.specs.Frames.{Kept, frame_of}
-use Rattle.cckd_tables.specs.Cached.{IsCached, table_of, tables_in}
-use Rattle.cckd_tables.proofs.CacheLemmas.{TableFirst, is_found, is_cached, is_absent, still_there, is_put}
+use Rattle.std.proofs.Common.{◌≡◌, ℕ, List, Option, Some, None, IsNone, IsSome}
+use Rattle.cckd_tables.specs.Cached.{table_of, tables_in}
+use Rattle.cckd_tables.proofs.CacheLemmas.{is_found, is_cached, is_absent, is_put}
 use Rattle.cckd_tables.proofs.cache.load_table.Goals as goal
 
 -- a table can't be cached and not be

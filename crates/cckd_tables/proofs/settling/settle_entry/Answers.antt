@@ -1,4 +1,4 @@
-use Rattle.std.proofs.Common.{◌≡◌, ◌/◌, length, refl, ◌∙◌}
+use Rattle.std.proofs.Common.{◌/◌, refl, ◌∙◌}
 use Rattle.cckd_tables.proofs.SettleLemmas.{cache_written, put_in_frame, put_in_none}
 use Rattle.cckd_tables.proofs.CacheLemmas.{frame_whole, body_peeked}
 use Rattle.cckd_tables.proofs.settling.settle_entry.Goals as goal

@@ -1,4 +1,4 @@
-use Rattle.std.proofs.Common.{◌≡◌, ◌*◌, ◌%◌, List, ℕ, ◌∙◌, subst, arith, rules}
+use Rattle.std.proofs.Common.{◌*◌, ◌%◌, List, ℕ, ◌∙◌, subst, arith, rules}
 use Rattle.cckd_base.specs.Put.{IsPut}
 use Rattle.cckd_tables.proofs.PutRunLemmas.{encoded_by}
 use Rattle.cckd_tables.proofs.TableLemmas.{fill_more}

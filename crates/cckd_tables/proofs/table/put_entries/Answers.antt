@@ -1,4 +1,4 @@
-use Rattle.std.proofs.Common.{◌≡◌, ◌+◌, ◌*◌, ◌%◌, List, ℕ, length, take, get_or, sym, ◌∙◌, subst, rules}
+use Rattle.std.proofs.Common.{◌+◌, ◌*◌, ◌%◌, List, ℕ, get_or, sym, ◌∙◌, subst, rules}
 use Rattle.cckd_base.specs.Put.{IsPut}
 use Rattle.cckd_tables.specs.declared.staged.StagedEntry.{StagedEntry}
 use Rattle.cckd_tables.proofs.PutRunLemmas.{encoded_by}

@@ -1,6 +1,4 @@
-use Rattle.std.proofs.Common.{◌≡◌, List, ℕ, length, sym, ◌∙◌, ap, subst, arith, rules}
-use Rattle.cckd_base.specs.declared.entry.L2Entry.{L2Entry}
-use Rattle.cckd_base.specs.Entry.{entry_of}
+use Rattle.std.proofs.Common.{List, ℕ, subst, rules}
 use Rattle.cckd_base.specs.Put.{IsPut}
 use Rattle.cckd_tables.specs.declared.staged.StagedEntry.{StagedEntry}
 use Rattle.cckd_tables.proofs.PutRunLemmas.{run_put_more, encoded_by}

@@ -1,4 +1,3 @@
-use Rattle.std.proofs.Common.{◌≡◌}
 use Rattle.cckd_shelf.specs.World.{file_of}
 use Rattle.cckd_tables.proofs.LookLemmas.{words_read}
 use Rattle.cckd_tables.proofs.words.read_words_by.Goals as goal

@@ -12,14 +12,14 @@ pub returns-clause-stopped : goal.returns-clause-stopped
 returns-clause-stopped g c = λ told.
     let old = seen g.S.Shows c.args.shelf.now in
     then_synced (IsNearOutcome (stages_of c.args.self.now) c.args.slot old.world.events) c.args.slot c.args.slot old (seen g.S.Shows c.write_tables.new.shelf) (seen g.S.Shows c.sync-synced.new.self) c.sync-synced.result
-    c.sync-synced.ensures.synced c.sync-synced.ensures.kept told (c.write_tables.ensures.stopped c.args.self.now.entries.now told)
+    c.sync-synced.ensures.synced c.sync-synced.ensures.kept told (c.write_tables.ensures.stopped told)
 
 pub returns-clause-done : goal.returns-clause-done
 returns-clause-done g c = λ may.
     let old = seen g.S.Shows c.args.shelf.now in
     let was = file_of old.world c.args.slot in
     synced_now c.args.self.now c.args.slot old (seen g.S.Shows c.write_tables.new.shelf) (seen g.S.Shows c.sync-synced.new.self) c.requires may may.tells
-    (c.in-Ok.ensures.sure may.tells may.sure) (c.in-Ok.ensures.near c.args.self.now.entries.now may.tells)
+    (c.in-Ok.ensures.sure may.tells may.sure) (c.in-Ok.ensures.near may.tells)
     (c.in-Ok.ensures.now may.tells (disjoint_of c.args.self.now.layout.now (stages_of c.args.self.now) was c.requires.order.groups may.can)) c.in-Ok-synced.ensures.synced
 
 pub returns-clause-others : goal.returns-clause-others

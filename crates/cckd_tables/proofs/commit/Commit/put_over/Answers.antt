@@ -1,4 +1,4 @@
-use Rattle.std.proofs.Common.{ℕ, List, length}
+use Rattle.std.proofs.Common.{length}
 use Rattle.cckd_shelf.specs.Seen.{seen}
 use Rattle.cckd_shelf.specs.World.{file_of}
 use Rattle.cckd_shelf.specs.Outcomes.{EachOutcome}
@@ -17,7 +17,7 @@ returns-clause-stopped g c = λ was ready has each told.
     let mid = seen g.S.Shows c.write_words.new.shelf in
     let new = seen g.S.Shows c.write_entries.new.shelf in
     let Q = EachOutcome c.args.slot (Blend c.args.self.now.layout.now was (stages_of c.args.self.now)) in
-    let first = c.write_words.ensures.stopped was c.args.self.now.entries.now ready each told in
+    let first = c.write_words.ensures.stopped was ready each told in
     joins Q old.world.events mid.world.events new.world.events first
     (c.write_entries.ensures.stopped was ready has (λ here. at_end Q old.world.events mid.world.events first) told)
 
@@ -29,7 +29,7 @@ returns-clause-now g c = λ was ready has told same.
     let new = seen g.S.Shows c.write_entries.new.shelf in
     on_ok (AreEntriesWritten l was stages (length c.args.self.now.entries.now) (file_of new.world c.args.slot)) (IsCommitted l was stages (file_of new.world c.args.slot)) c.write_entries.result
     (λ h. all_entered l was stages (file_of new.world c.args.slot) h)
-    (c.write_entries.ensures.now was ready has told (words_entered l was stages (file_of mid.world c.args.slot) ready (c.in_ok-write_words.ensures.now was c.args.self.now.entries.now ready told same)))
+    (c.write_entries.ensures.now was ready has told (words_entered l was stages (file_of mid.world c.args.slot) ready (c.in_ok-write_words.ensures.now was ready told same)))
 
 pub returns-clause-others : goal.returns-clause-others
 returns-clause-others g c =

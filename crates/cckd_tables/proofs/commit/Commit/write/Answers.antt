@@ -3,7 +3,8 @@ use Rattle.cckd_shelf.specs.Seen.{seen}
 use Rattle.cckd_shelf.specs.World.{file_of}
 use Rattle.cckd_shelf.proofs.FrameLemmas.{only_twice}
 use Rattle.cckd_tables.specs.Commit.{stages_of}
-use Rattle.cckd_tables.proofs.CommitLemmas.{ready_of, words_of, begun, near_left, all_left, blended_at_end, tables_stay}
+use Rattle.cckd_tables.proofs.CommitLemmas.{ready_of, words_of, begun, near_left, all_left, blended_at_end, has_new, tables_stay}
+use Rattle.cckd_tables.proofs.PlacesLemmas.{all_places}
 use Rattle.cckd_tables.proofs.commit.Commit.write.Goals as goal
 
 pub returns-in_err-prepare-clause-stopped : goal.returns-in_err-prepare-clause-stopped
@@ -82,3 +83,16 @@ returns-clause-tables g c = λ may.
     let committed = c.in-Ok.ensures.now (file_of mid.world c.args.slot) ready
     (words_of l c.args.self.now.words.now stages was (file_of mid.world c.args.slot) synced.synced may.words) may.tells refl in
     tables_stay l stages (file_of mid.world c.args.slot) (file_of new.world c.args.slot) c.args.self.now.tables.now ready c.requires.order committed.blend (c.in_ok-prepare.ensures.tables may)
+
+pub returns-clause-spelled : goal.returns-clause-spelled
+returns-clause-spelled g c = λ may inside.
+    let l = c.args.self.now.layout.now in
+    let stages = stages_of c.args.self.now in
+    let mid = file_of (seen g.S.Shows c.prepare.new.shelf).world c.args.slot in
+    let file = file_of (seen g.S.Shows c.put_over.new.shelf).world c.args.slot in
+    let was = file_of (seen g.S.Shows c.args.shelf.now).world c.args.slot in
+    let synced = c.in_ok-prepare.ensures.done may in
+    let ready = ready_of l stages was mid c.requires.layout synced.synced in
+    let committed = c.in-Ok.ensures.now mid ready (words_of l c.args.self.now.words.now stages was mid synced.synced may.words) may.tells refl in
+    all_places l stages was mid file c.requires.layout c.requires.order synced.synced committed
+    (has_new l stages was file c.args.self.now.tables.now may.spelled (tables_stay l stages mid file c.args.self.now.tables.now ready c.requires.order committed.blend (c.in_ok-prepare.ensures.tables may))) inside

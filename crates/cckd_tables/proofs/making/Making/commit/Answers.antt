@@ -1,5 +1,5 @@
-use Rattle.std.proofs.Common.{◌≡◌, List, ℕ, length, OnOk, inl, refl, sym, subst, arith}
-use Rattle.cckd_shelf.specs.Seen.{Seen, seen, Tells}
+use Rattle.std.proofs.Common.{List, ℕ, OnOk, inl, refl, sym, subst, arith}
+use Rattle.cckd_shelf.specs.Seen.{seen}
 use Rattle.cckd_shelf.specs.World.{World, IsSure, file_of}
 use Rattle.cckd_shelf.specs.Outcomes.{EachOutcome, AtEach}
 use Rattle.cckd_shelf.specs.Stops.{StopLeaves}

@@ -1,7 +1,6 @@
-use Rattle.std.proofs.Common.{◌≡◌, ◌+◌, ◌*◌, ◌<◌, ◌≤◌, length, get_or, slice_index, sym, ◌∙◌, arith}
+use Rattle.std.proofs.Common.{◌≡◌, ◌*◌, ◌<◌, length, get_or, slice_index, sym, ◌∙◌, arith}
 use Rattle.std.proofs.lemmas.List.{get_or-map}
-use Rattle.std.specs.Vec.{vec_len, vec_capacity}
-use Rattle.cckd_shelf.specs.Seen.{Seen, seen, Tells}
+use Rattle.cckd_shelf.specs.Seen.{seen, Tells}
 use Rattle.cckd_tables.specs.declared.staged.StagedWord.{StagedWord}
 use Rattle.cckd_tables.specs.Staging.{Stages}
 use Rattle.cckd_tables.specs.Commit.{staged_groups}

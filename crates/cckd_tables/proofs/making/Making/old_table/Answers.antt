@@ -1,11 +1,11 @@
-use Rattle.std.proofs.Common.{◌≡◌, ◌≢◌, ◌/◌, ℕ, List, length, slice_index, Some, refl, sym, ◌∙◌, ap, subst}
+use Rattle.std.proofs.Common.{◌≡◌, ◌/◌, ℕ, List, slice_index, refl, sym, ◌∙◌, ap}
 use Rattle.cckd_base.specs.Numbers.{bytes_at}
-use Rattle.cckd_base.specs.Entry.{see_parent, entry_at}
+use Rattle.cckd_base.specs.Entry.{entry_at}
 use Rattle.cckd_base.specs.Image.{IsPlace}
-use Rattle.cckd_shelf.specs.Seen.{seen, Tells, IsPart}
+use Rattle.cckd_shelf.specs.Seen.{seen, Tells}
 use Rattle.cckd_shelf.specs.World.{IsSure, file_of}
 use Rattle.cckd_tables.specs.Cells.{entry_among}
-use Rattle.cckd_tables.specs.Making.{tables_of, HasOldEntries}
+use Rattle.cckd_tables.specs.Making.{tables_of}
 use Rattle.cckd_tables.proofs.MakingLemmas.{old_cached, old_read}
 use Rattle.cckd_tables.proofs.LookLemmas.{on_ok_where}
 use Rattle.cckd_tables.proofs.CacheLemmas.{frame_whole, table_peeked}

@@ -1,6 +1,6 @@
-use Rattle.std.proofs.Common.{◌≡◌, ◌↔◌, Bool, List, sym, subst, IsTrue}
+use Rattle.std.proofs.Common.{◌↔◌, Bool, sym, subst, IsTrue}
 use Rattle.cckd_frames.specs.declared.frames.Frame.{Frame}
-use Rattle.cckd_tables.specs.Tables.{TableView, CachedTable}
+use Rattle.cckd_tables.specs.Tables.{TableView}
 use Rattle.cckd_tables.specs.Cached.{IsCached, tables_in}
 use Rattle.cckd_tables.proofs.CacheLemmas.{cached_tells}
 use Rattle.cckd_tables.proofs.tables.Tables.cached.Goals as goal

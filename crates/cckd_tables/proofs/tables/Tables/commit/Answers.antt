@@ -1,10 +1,8 @@
-use Rattle.std.proofs.Common.{◌≡◌, ◌≤◌, ◌<◌, ◌*◌, ℕ, List, length, min, sym, ◌∙◌, ap, subst, arith}
-use Rattle.std.proofs.Math.ListN.{length-set}
+use Rattle.std.proofs.Common.{◌≡◌, ◌<◌, ℕ, List, length, sym, ◌∙◌, ap, subst, arith}
 use Rattle.std.proofs.lemmas.List.{with_items_is}
 use Rattle.std.specs.Vec.{with_items}
 use Rattle.std.specs.List.{AllByRecursion}
 use Rattle.std.specs.List.Sorted.{IsStrictlyIncreasing}
-use Rattle.cckd_base.specs.Geometry.{IsLayout}
 use Rattle.cckd_shelf.specs.Seen.{seen}
 use Rattle.cckd_shelf.specs.World.{file_of}
 use Rattle.cckd_tables.specs.declared.staged.StagedEntry.{StagedEntry}

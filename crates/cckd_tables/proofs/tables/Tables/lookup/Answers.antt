@@ -1,17 +1,15 @@
-use Rattle.std.proofs.Common.{◌≡◌, ◌/◌, ◌<◌, ℕ, List, [], length, slice_index, None, IfOk, sym, ◌∙◌, ap, subst, arith}
+use Rattle.std.proofs.Common.{◌≡◌, ◌/◌, ◌<◌, [], length, slice_index, None, IfOk, sym, ◌∙◌, ap, subst, arith}
 use Rattle.std.specs.Option.{unwrap_or}
 use Rattle.std.proofs.lemmas.List.{get_or_default}
-use Rattle.cckd_base.specs.Image.{IsPlace}
 use Rattle.cckd_base.specs.Geometry.{track_count}
 use Rattle.cckd_base.specs.Numbers.{bytes_at}
-use Rattle.cckd_base.specs.declared.entry.L2Entry.{L2Entry}
 use Rattle.cckd_frames.specs.Frames.{Kept}
 use Rattle.cckd_shelf.specs.Seen.{seen, Tells}
 use Rattle.cckd_shelf.specs.World.{World, IsSure, file_of}
 use Rattle.cckd_tables.specs.Staging.{entry_for, new_entry}
 use Rattle.cckd_tables.specs.Tables.{TableView, AreOf}
 use Rattle.cckd_tables.specs.Cached.{KeepsCached, table_of, tables_in}
-use Rattle.cckd_tables.specs.Looking.{IsOfSlot, IsEntryOf, with_cached}
+use Rattle.cckd_tables.specs.Looking.{IsEntryOf, with_cached}
 use Rattle.cckd_tables.proofs.LookLemmas.{group_there, word_is_place, entry_looked, of_looked, keeps_looked, ok_where, if_ok_where, on_err}
 use Rattle.cckd_tables.proofs.tables.Tables.lookup.Goals as goal
 

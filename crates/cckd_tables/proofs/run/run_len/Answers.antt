@@ -1,10 +1,10 @@
-use Rattle.std.proofs.Common.{◌≡◌, ℕ, ◌+◌, ◌<◌, length, get_or, sym, ◌∙◌, ap, subst, arith, inl, inr}
+use Rattle.std.proofs.Common.{◌≡◌, ℕ, ◌+◌, sym, subst, arith, inl, inr}
 use Rattle.std.proofs.lemmas.Bool.{cases_lt}
 use Rattle.std.specs.Prelude.{slice_index}
 use Rattle.cckd_tables.specs.declared.staged.StagedEntry.{StagedEntry}
 use Rattle.cckd_tables.specs.Commit.{staged_tracks}
 use Rattle.cckd_tables.proofs.StagedLemmas.{track_of}
-use Rattle.cckd_tables.proofs.entries.run_len.Goals as goal
+use Rattle.cckd_tables.proofs.run.run_len.Goals as goal
 
 pub loop-count-preserved : goal.loop-count-preserved
 loop-count-preserved c = λ i low. elim (cases_lt i c.loop-count.count) [

@@ -1,6 +1,0 @@
-use Rattle.cckd_shelf.specs.Seen.{seen}
-use Rattle.cckd_tables.proofs.TableLoopLemmas.{TablesSoFar}
-use Rattle.cckd_tables.proofs.commit.write_tables.Given as goal
-
-abbrev pub invariant-loop-i : goal.invariant-loop-i
-invariant-loop-i g l = TablesSoFar l.slot l.words l.tables l.i (seen g.S.Shows l.fn.shelf) (seen g.S.Shows l.shelf)
