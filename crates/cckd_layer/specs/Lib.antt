@@ -10,3 +10,4 @@ pub mod Stands
 pub mod Closed
 pub mod Reads
 pub mod Mounted
+pub mod Writes

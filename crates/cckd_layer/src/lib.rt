@@ -1,22 +1,29 @@
-//! One image that is written: the file of one slot with its tracks. What holds of it between calls, and the acts that keep it so.
+//! One image that is written: what holds of its file between calls, and the acts that keep it so.
 #![tactic(auto)]
 
+mod agreeing;
 mod chaining;
+mod claiming;
 mod closing;
+mod committing;
 mod counting;
+mod hardening;
 mod held;
 mod laws;
 mod layer;
 mod looking;
 mod marking;
 mod mounting;
+mod opening;
 mod placing;
 mod reading;
 mod settling;
 mod staging;
 #[cfg(test)]
 mod tests;
+mod writing;
 
+pub use agreeing::layers_agree;
 pub use cckd_base::Layout;
 pub use cckd_shelf::Slot;
 pub use cckd_space::Space;

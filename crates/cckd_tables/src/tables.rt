@@ -12,7 +12,7 @@ ghost use Rattle.cckd_tables.specs.Tables.{AreOf};
 ghost use Rattle.cckd_tables.specs.Commit.{MayLeave, IsBlended, IsCommittedFrom};
 ghost use Rattle.cckd_tables.specs.Making.{Commits};
 ghost use Rattle.cckd_tables.specs.Settling.{Settles};
-ghost use Rattle.cckd_tables.specs.Staging.{IsStaged, IsMoved};
+ghost use Rattle.cckd_tables.specs.Staging.{IsStaged, IsMoved, entry_for};
 ghost use Rattle.cckd_tables.specs.Stages.{free_count, with_entry, with_word, staged_spaces};
 ghost use Rattle.cckd_tables.specs.Cached.{IsCached, UsesTable, KeepsCached};
 ghost use Rattle.cckd_tables.specs.Looking.{IsTables, HasAlignedTable, LoadsWords, NeedsTable, NeedsNoTable, IsOfSlot, IsEntryOf, new_tables, with_stages, with_cached, word_of};
@@ -113,6 +113,13 @@ impl Tables {
             Some(pos) => pos,
             None => self.words[group as usize],
         }
+    }
+
+    /// The entry that is staged for a track, if one is.
+    pub fn staged_entry(&self, t: Track) -> Option<L2Entry>
+        ensures { result ≡ entry_for t.0 self.now.stages.entries }
+    {
+        self.stages.entry(t.0)
     }
 
     /// How many more entries and words can be staged.

@@ -1,0 +1,56 @@
+//! The opening mark: before a file is changed for the first time it says that it was opened.
+ghost use Rattle.std.specs.Prelude.{◌≡◌, ◌⊎◌, true, IsOk, OnOk, IfErr, List};
+ghost use Rattle.cckd_shelf.specs.Seen.{seen};
+ghost use Rattle.cckd_shelf.specs.Frame.{OnlyIn};
+ghost use Rattle.cckd_base.specs.declared.space.Extent.{Extent as Space_of};
+ghost use Rattle.cckd_tables.specs.Device.{CountsDevice};
+ghost use Rattle.cckd_layer.specs.Writes.{KeepsMapWith, StopsWithinWith, marked_layer, failed_by};
+
+use crate::layer::Layer;
+use crate::marking::{open_header, put_second, second_header};
+use cckd_base::Unit;
+use cckd_shelf::Stage;
+use cckd_tables::Device;
+
+impl<U: Unit> Layer<U> {
+    /// Says in the file that it was opened and not closed.
+    fn mark_anew<T: Stage>(&mut self, stage: &mut T) -> Result<(), Device>
+        ensures marked { OnOk result (self.new ≡ marked_layer self.old) }
+        ensures map { (claims : List Space_of) → OnOk result (KeepsMapWith claims claims U.null_bytes self.old self.new (seen T.Shows stage.old) (seen T.Shows stage.new)) }
+        ensures failed { IfErr result (λ fault. self.new ≡ failed_by fault self.old) }
+        ensures counts { CountsDevice result (seen T.Shows stage.old).faults (seen T.Shows stage.new).faults }
+        ensures stopped { (claims : List Space_of) → StopsWithinWith claims U.null_bytes self.old (seen T.Shows stage.old) (seen T.Shows stage.new) }
+        ensures others { OnlyIn self.old.slot (seen T.Shows stage.old) (seen T.Shows stage.new) }
+    {
+        let opened = open_header(&self.header);
+        let second = second_header(&opened);
+        match put_second(stage, self.slot, &second) {
+            Ok(()) => {
+                self.header = opened;
+                self.marked = true;
+                Ok(())
+            }
+            Err(fault) => {
+                self.fail(fault);
+                Err(fault)
+            }
+        }
+    }
+
+    /// Says in the file that it was opened and not closed, where it doesn't say so yet.
+    pub(crate) fn mark<T: Stage>(&mut self, stage: &mut T) -> Result<(), Device>
+        ensures marked { OnOk result (self.new.marked ≡ true) }
+        ensures rest { OnOk result ((self.new ≡ self.old) ⊎ (self.new ≡ marked_layer self.old)) }
+        ensures still { self.old.marked ≡ true → IsOk result × (self.new ≡ self.old) × (seen T.Shows stage.new ≡ seen T.Shows stage.old) }
+        ensures map { (claims : List Space_of) → OnOk result (KeepsMapWith claims claims U.null_bytes self.old self.new (seen T.Shows stage.old) (seen T.Shows stage.new)) }
+        ensures failed { IfErr result (λ fault. self.new ≡ failed_by fault self.old) }
+        ensures counts { CountsDevice result (seen T.Shows stage.old).faults (seen T.Shows stage.new).faults }
+        ensures stopped { (claims : List Space_of) → StopsWithinWith claims U.null_bytes self.old (seen T.Shows stage.old) (seen T.Shows stage.new) }
+        ensures others { OnlyIn self.old.slot (seen T.Shows stage.old) (seen T.Shows stage.new) }
+    {
+        if self.marked {
+            return Ok(());
+        }
+        self.mark_anew(stage)
+    }
+}
