@@ -82,13 +82,6 @@ impl Space {
         })
     }
 
-    /// How many pieces may still be added without taking memory.
-    pub fn spare(&self) -> u32
-        ensures { result ≡ min self.now.spare (2 ^ 32 - 1) }
-    {
-        (self.slots - self.pieces.len()).min(0xffff_ffff) as u32
-    }
-
     /// Makes room for at least so many pieces more.
     pub fn grow(&mut self, more: u32) -> Result<(), Memory>
         ensures kept { KeepsAllButSpare self.old self.new }
