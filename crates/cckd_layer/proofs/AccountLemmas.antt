@@ -150,17 +150,11 @@ exactly_without : (kind : Kind) (as_piece : Extent → Piece) (P : Extent → Ty
 exactly_without kind as_piece P test f x ps end laid of never once far h = record {
   there = λ e q. has_replaced test (λ p. f p ∷ []) ps (as_piece e) (far e q.0 q.1) (h.there e q.0);
   named = λ p m k. elim (has_of_replaced test (λ q. f q ∷ []) ps p m) [
-    | inl a ↦ let n = h.named p a k in (
-      n.0,
-      (
-        n.1,
-        λ same. elim (replaced_gone test (λ q. f q ∷ []) 0 ps end (as_piece x) laid once (subst (λ (y : Piece). Has y (replaced test (λ q. f q ∷ []) ps)) (n.2 ∙ ap as_piece same) m)) [
+    | inl a ↦ let n = h.named p a k in
+        (n.0, (n.1, λ same. elim (replaced_gone test (λ q. f q ∷ []) 0 ps end (as_piece x) laid once (subst (λ (y : Piece). Has y (replaced test (λ q. f q ∷ []) ps)) (n.2 ∙ ap as_piece same) m)) [
           | inl e ↦ never (as_piece x) (ap (λ (y : Piece). y.kind) e ∙ of x)
           | inr none ↦ none
-        ],
-      ),
-      n.2,
-    )
+        ]), n.2)
     | inr b ↦ elim b.2 [ inl e ↦ absurd (never b.0 (ap (λ (y : Piece). y.kind) e ∙ k)) | inr none ↦ absurd none ]
   ];
 }
@@ -239,9 +233,9 @@ accounts_placed U L R need ps end some laid a =
     let keeps : (p : Piece) → is_free p ≡ false → Has p ps → Has p qs = λ p busy h. placed_keeps need ps p busy h in
     let clear = placed_clear need ps end laid in
     let alone : (e : Extent) → R e → e.pos ≡ pos → ⊥ = λ e r same.
-    let h = a.reserved.there e r in
-    let size = has_some 0 ps end (placed_piece e) laid h in
-    elim (clear.each (placed_piece e) h refl) [ inl b ↦ omega (arith, b, same, size) | inr b ↦ omega (arith, b, same, some) ] in
+        let h = a.reserved.there e r in
+        let size = has_some 0 ps end (placed_piece e) laid h in
+        elim (clear.each (placed_piece e) h refl) [ inl b ↦ omega (arith, b, same, size) | inr b ↦ omega (arith, b, same, some) ] in
     record {
       used = exactly_in Used used_piece U ps qs (λ e. refl) (λ p k. keeps p (ap free_kind k))
           (λ p k h. elim (has_of_placed need ps p (ap free_kind k) h) [ inl old ↦ old | inr new ↦ absurd (let e : Used ≡ Reserved = sym k ∙ ap (λ (y : Piece). y.kind) new in cc) ]) a.used;

@@ -76,10 +76,8 @@ nothing_append pos x xs ys =
   where
     by_zero : (pos == 0) ≡ true → names_nothing pos (x ∷ xs ++ ys) (xs ++ ys) ≡ xs ++ ys
     by_zero e = rw e refl
-
     by_parent : (pos == 0) ≡ false → (pos == see_parent) ≡ true → names_nothing pos (x ∷ xs ++ ys) (xs ++ ys) ≡ xs ++ ys
     by_parent e f = rw e (rw f refl)
-
     by_place : (pos == 0) ≡ false → (pos == see_parent) ≡ false → names_nothing pos (x ∷ xs ++ ys) (xs ++ ys) ≡ x ∷ xs ++ ys
     by_place e f = rw e (rw f refl)
 

@@ -41,6 +41,7 @@ pub record IsBase (l : Layout) (s : Stages) (claims : List Extent) (ps : List Pi
   pub within : (g pos : ℕ) → place_for g s.words ≡ Some pos → pos + 2048 ≤ length file
 
 module _ (l : Layout) (s : Stages) (claims : List Extent) (ps : List Piece) (end : ℕ) (file : List ℕ) (base : IsBase l s claims ps end file) where
+
   track_placed : (t : ℕ) (e : L2Entry) → entry_for t s.entries ≡ Some e → IsPlace e.pos → IsPlaced s claims (stored_space t e)
   track_placed t e named place = inl (inr (t, record { entry = e; named = named; place = place; is = refl }))
 

@@ -109,12 +109,10 @@ commit_keeps null d later v slot w rising h within each f left = elim left [
       let now : Keeps null l d later was = each was (now_is_outcome w.events slot) in
       record {
         whole = (blend_whole l v.stages blend.0 f x.whole ready blend.2).0;
-        lies = record {
-          each = λ t low. elim (blend_track null l v.stages was blend.0 f blend.1 x ready blend.2 t low) [
-            | inl old ↦ subst (λ (o : Option (List ℕ)). (o ≡ d t) ⊎ IsLater later t o) (sym old) (now.lies.each t low)
-            | inr new ↦ subst (λ (o : Option (List ℕ)). (o ≡ d t) ⊎ IsLater later t o) (sym new) (within.each t low)
-          ];
-        };
+        lies = record { each = λ t low. elim (blend_track null l v.stages was blend.0 f blend.1 x ready blend.2 t low) [
+          | inl old ↦ subst (λ (o : Option (List ℕ)). (o ≡ d t) ⊎ IsLater later t o) (sym old) (now.lies.each t low)
+          | inr new ↦ subst (λ (o : Option (List ℕ)). (o ≡ d t) ⊎ IsLater later t o) (sym new) (within.each t low)
+        ] };
       }
 ]
 
@@ -145,6 +143,7 @@ none_moved_at g h = cc
 
 -- what the committed file names is what was in use or new
 module _ (l : Layout) (s : Stages) (was mid file : List ℕ) (layout : IsLayout l) (sync : IsSynced l s was mid) (done : IsCommitted l mid s file) where
+
   word_is : (g : ℕ) → g < l.groups → word_at l file g ≡ new_word l s was g
   word_is g low = done.words g low ∙ same_word l s was mid g (sync.words g low)
 
@@ -183,7 +182,6 @@ module _ (l : Layout) (s : Stages) (was mid file : List ℕ) (layout : IsLayout 
       none_of_it : (o : Option ℕ) → o ≡ None → IsSome o → ⊥
       none_of_it None e h = cc
       none_of_it (Some x) e h = absurd cc
-
       none_of_entry : (o : Option L2Entry) → o ≡ None → IsSome o → ⊥
       none_of_entry None e h = cc
       none_of_entry (Some x) e h = absurd cc

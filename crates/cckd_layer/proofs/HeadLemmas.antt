@@ -33,31 +33,9 @@ fault_none_at identifiers headers len more e long area short =
     let file = or_parts (nat_lt len 1024) _ n.0 in
     stands_none (header_cases identifiers (judged_in headers) more) (
       either (nat_lt more 1024) _ (le-ltb more 1024 long) file.1,
-      (
-        n.1.0,
-        (
-          n.1.1.0,
-          (
-            n.1.1.1.0,
-            (
-              n.1.1.1.1.0,
-              (
-                n.1.1.1.1.1.0,
-                (
-                  n.1.1.1.1.1.1.0,
-                  (
-                    n.1.1.1.1.1.1.1.0,
-                    (
-                      within_is (area_of (group_count (header_geometry headers))) format_limit more area short,
-                      n.1.1.1.1.1.1.1.1.1,
-                    ),
-                  ),
-                ),
-              ),
-            ),
-          ),
-        ),
-      ),
+      (n.1.0, (n.1.1.0, (n.1.1.1.0, (n.1.1.1.1.0, (n.1.1.1.1.1.0,
+      (n.1.1.1.1.1.1.0, (n.1.1.1.1.1.1.1.0, (within_is (area_of (group_count (header_geometry headers))) format_limit more area short,
+      n.1.1.1.1.1.1.1.1.1))))))))
     )
   where
     either : (x y : Bool) → x ≡ false → y ≡ false → (x || y) ≡ false

@@ -159,29 +159,25 @@ once_entries [] rising = tt
 once_entries (s ∷ es) rising =
     let later = once_entries es (tail_rises s.track (staged_tracks es) rising) in
     elim (place_or_not s.entry.pos) [
-      | inl place ↦ subst AreOnce (sym (names_it s.entry.pos (stored_space s.track s.entry ∷ entry_spaces es) (entry_spaces es) place)) (
-        (λ h.
-            let r = among_entries es (stored_space s.track s.entry) h in
-            let above = track_above s es r.0 rising r.1 in
-            let o : Track s.track ≡ Track r.0.track = ap (λ (y : Extent). y.owner) r.3 in
-            let q : s.track ≡ r.0.track = cc in
-            omega (arith, above, q)),
-        later,
-      )
+      | inl place ↦ subst AreOnce (sym (names_it s.entry.pos (stored_space s.track s.entry ∷ entry_spaces es) (entry_spaces es) place))
+          ((λ h.
+          let r = among_entries es (stored_space s.track s.entry) h in
+          let above = track_above s es r.0 rising r.1 in
+          let o : Track s.track ≡ Track r.0.track = ap (λ (y : Extent). y.owner) r.3 in
+          let q : s.track ≡ r.0.track = cc in
+          omega (arith, above, q)), later)
       | inr none ↦ subst AreOnce (sym (names_none s.entry.pos (stored_space s.track s.entry ∷ entry_spaces es) (entry_spaces es) none)) later
     ]
 
 once_words : (ws : List StagedWord) → IsStrictlyIncreasing (staged_groups ws) → AreOnce (word_spaces ws)
 once_words [] rising = tt
-once_words (s ∷ ws) rising = (
-  (λ h.
-      let r = among_words ws (table_space s.group s.pos) h in
-      let above = group_above s ws r.0 rising r.1 in
-      let o : Table s.group ≡ Table r.0.group = ap (λ (y : Extent). y.owner) r.2 in
-      let q : s.group ≡ r.0.group = cc in
-      omega (arith, above, q)),
-  once_words ws (tail_rises s.group (staged_groups ws) rising),
-)
+once_words (s ∷ ws) rising =
+    ((λ h.
+    let r = among_words ws (table_space s.group s.pos) h in
+    let above = group_above s ws r.0 rising r.1 in
+    let o : Table s.group ≡ Table r.0.group = ap (λ (y : Extent). y.owner) r.2 in
+    let q : s.group ≡ r.0.group = cc in
+    omega (arith, above, q)), once_words ws (tail_rises s.group (staged_groups ws) rising))
 
 -- ---- all that something staged names
 

@@ -113,19 +113,17 @@ retired_size p Free e = ap (λ (x : Kind). (retired_as x p).size) e
 retired_size p Reserved e = ap (λ (x : Kind). (retired_as x p).size) e
 
 pub held_retired : (ps : List Piece) → KeepsHeld ps (map retired ps)
-held_retired ps = record {
-  each = λ pos n h.
-      let p = h.piece in
-      let at = retired_pos p p.kind refl in
-      let long = retired_size p p.kind refl in
-      record {
-        piece = retired p;
-        there = has_map retired ps p h.there;
-        kind = retired_held p p.kind refl h.kind;
-        low = omega (arith, at, h.low);
-        high = omega (arith, at, long, h.high);
-      };
-}
+held_retired ps = record { each = λ pos n h.
+    let p = h.piece in
+    let at = retired_pos p p.kind refl in
+    let long = retired_size p p.kind refl in
+    record {
+      piece = retired p;
+      there = has_map retired ps p h.there;
+      kind = retired_held p p.kind refl h.kind;
+      low = omega (arith, at, h.low);
+      high = omega (arith, at, long, h.high);
+    } }
 
 -- ---- where what is held ends
 
@@ -134,55 +132,47 @@ pub record EndsBy (n : ℕ) (ps : List Piece) : Type 0 where
   pub each : (p : Piece) → Has p ps → held_kind p.kind ≡ true → piece_end p ≤ n
 
 pub ends_placed : (n need : ℕ) (ps : List Piece) → EndsBy n ps → EndsBy n (with_reserved need ps)
-ends_placed n need ps x = record {
-  each = λ p h k. elim (has_of_placed need ps p (held_busy p.kind k) h) [
-    | inl old ↦ x.each p old k
-    | inr new ↦ absurd (let e : true ≡ false = sym k ∙ ap (λ (y : Piece). held_kind y.kind) new in cc)
-  ];
-}
+ends_placed n need ps x = record { each = λ p h k. elim (has_of_placed need ps p (held_busy p.kind k) h) [
+  | inl old ↦ x.each p old k
+  | inr new ↦ absurd (let e : true ≡ false = sym k ∙ ap (λ (y : Piece). held_kind y.kind) new in cc)
+] }
 
 pub ends_given : (n pos : ℕ) (ps : List Piece) → EndsBy n ps → EndsBy n (merged (replaced (is_reserved_at pos) (λ p. freed p ∷ []) ps))
-ends_given n pos ps x = record {
-  each = λ p h k. elim (has_of_replaced (is_reserved_at pos) (λ q. freed q ∷ []) ps p (has_of_merged _ p (held_busy p.kind k) h)) [
-    | inl old ↦ x.each p old k
-    | inr new ↦ elim new.2 [ inl e ↦ absurd (let f : true ≡ false = sym k ∙ sym (ap (λ (y : Piece). held_kind y.kind) e) in cc) | inr none ↦ absurd none ]
-  ];
-}
+ends_given n pos ps x = record { each = λ p h k. elim (has_of_replaced (is_reserved_at pos) (λ q. freed q ∷ []) ps p (has_of_merged _ p (held_busy p.kind k) h)) [
+  | inl old ↦ x.each p old k
+  | inr new ↦ elim new.2 [ inl e ↦ absurd (let f : true ≡ false = sym k ∙ sym (ap (λ (y : Piece). held_kind y.kind) e) in cc) | inr none ↦ absurd none ]
+] }
 
 pub ends_cut : (n len size : ℕ) (ps : List Piece) → EndsBy n ps → EndsBy n (cut len size ps)
 ends_cut n len size ps x = record { each = λ p h k. x.each p (has_of_cut len size ps p (held_busy p.kind k) h) k }
 
 pub ends_left : (n pos : ℕ) (ps : List Piece) → EndsBy n ps → EndsBy n (replaced (is_used_at pos) (λ p. left p ∷ []) ps)
-ends_left n pos ps x = record {
-  each = λ p h k. elim (has_of_replaced (is_used_at pos) (λ q. left q ∷ []) ps p h) [
-    | inl old ↦ x.each p old k
-    | inr new ↦ elim new.2 [
-      | inl e ↦
-          let f = first_has (is_used_at pos) ps new.0 new.1 in
-          let y = x.each new.0 f.0 (ap held_kind (found_used pos new.0 f.1)) in
-          let s = ap piece_end e in
-          omega (arith, y, s)
-      | inr none ↦ absurd none
-    ]
-  ];
-}
+ends_left n pos ps x = record { each = λ p h k. elim (has_of_replaced (is_used_at pos) (λ q. left q ∷ []) ps p h) [
+  | inl old ↦ x.each p old k
+  | inr new ↦ elim new.2 [
+    | inl e ↦
+        let f = first_has (is_used_at pos) ps new.0 new.1 in
+        let y = x.each new.0 f.0 (ap held_kind (found_used pos new.0 f.1)) in
+        let s = ap piece_end e in
+        omega (arith, y, s)
+    | inr none ↦ absurd none
+  ]
+] }
 
 pub ends_settled : (n : ℕ) (x : Extent) (ps : List Piece) (end : ℕ) → IsLaid 0 ps end → Has (placed_piece x) ps → x.pos + x.size ≤ n → EndsBy n ps
     → EndsBy n (replaced (is_reserved_at x.pos) (λ p. settled x.len x.owner p ∷ []) ps)
-ends_settled n x ps end laid there within h = record {
-  each = λ p m k. elim (has_of_replaced (is_reserved_at x.pos) (λ q. settled x.len x.owner q ∷ []) ps p m) [
-    | inl old ↦ h.each p old k
-    | inr new ↦ elim new.2 [
-      | inl e ↦
-          let f = placed_at x ps end laid there in
-          let same : placed_piece x ≡ new.0 = (let g : Some (placed_piece x) ≡ Some new.0 = sym f ∙ new.1 in cc) in
-          let s = ap piece_end e in
-          let t = ap piece_end same in
-          omega (arith, s, t, within)
-      | inr none ↦ absurd none
-    ]
-  ];
-}
+ends_settled n x ps end laid there within h = record { each = λ p m k. elim (has_of_replaced (is_reserved_at x.pos) (λ q. settled x.len x.owner q ∷ []) ps p m) [
+  | inl old ↦ h.each p old k
+  | inr new ↦ elim new.2 [
+    | inl e ↦
+        let f = placed_at x ps end laid there in
+        let same : placed_piece x ≡ new.0 = (let g : Some (placed_piece x) ≡ Some new.0 = sym f ∙ new.1 in cc) in
+        let s = ap piece_end e in
+        let t = ap piece_end same in
+        omega (arith, s, t, within)
+    | inr none ↦ absurd none
+  ]
+] }
 
 back_retired : (p q : Piece) (k : Kind) → q.kind ≡ k → retired q ≡ p → held_kind p.kind ≡ true → held_kind k ≡ true
 back_retired p q Used e r h = refl
@@ -192,23 +182,19 @@ back_retired p q Free e r h = absurd (let f : true ≡ false = sym h ∙ (sym (a
 back_retired p q Reserved e r h = absurd (let f : true ≡ false = sym h ∙ (sym (ap (λ (y : Piece). held_kind y.kind) r) ∙ (ap (λ (x : Kind). held_kind (retired_as x q).kind) e ∙ ap held_kind e)) in cc)
 
 pub ends_retired : (n : ℕ) (ps : List Piece) → EndsBy n ps → EndsBy n (map retired ps)
-ends_retired n ps x = record {
-  each = λ p h k.
-      let o = has_of_map retired ps p h in
-      let y = x.each o.0 o.1 (back_retired p o.0 o.0.kind refl o.2 k) in
-      let at = retired_pos o.0 o.0.kind refl in
-      let long = retired_size o.0 o.0.kind refl in
-      let s = ap piece_end o.2 in
-      omega (arith, y, at, long, s);
-}
+ends_retired n ps x = record { each = λ p h k.
+    let o = has_of_map retired ps p h in
+    let y = x.each o.0 o.1 (back_retired p o.0 o.0.kind refl o.2 k) in
+    let at = retired_pos o.0 o.0.kind refl in
+    let long = retired_size o.0 o.0.kind refl in
+    let s = ap piece_end o.2 in
+    omega (arith, y, at, long, s) }
 
 pub ends_released : (n : ℕ) (ps : List Piece) → EndsBy n ps → EndsBy n (merged (map released ps))
-ends_released n ps x = record {
-  each = λ p h k.
-      let busy = held_busy p.kind k in
-      let o = has_of_map released ps p (has_of_merged (map released ps) p busy h) in
-      x.each p (subst (λ (y : Piece). Has y ps) (unreleased p o.0 o.2 busy) o.1) k;
-}
+ends_released n ps x = record { each = λ p h k.
+    let busy = held_busy p.kind k in
+    let o = has_of_map released ps p (has_of_merged (map released ps) p busy h) in
+    x.each p (subst (λ (y : Piece). Has y ps) (unreleased p o.0 o.2 busy) o.1) k }
 
 -- ---- how pieces and file go together
 
@@ -378,7 +364,6 @@ used_end_there at (p ∷ q ∷ ps) end laid some = elim (used_end_there (at + p.
       where
         not_two : at + p.size < used_end (q ∷ ps) → used_end (q ∷ ps) ≡ at + p.size → ⊥
         not_two low same = omega (arith, low, same)
-
         used_end_busy : (at : ℕ) (q : Piece) (ps : List Piece) (end : ℕ) → IsLaid at (q ∷ ps) end → is_free q ≡ false → at < used_end (q ∷ ps)
         used_end_busy at q [] end laid busy = let u = cond-false (is_free q) q.pos (piece_end q) busy in omega (arith, u, laid.0.place, laid.0.some)
         used_end_busy at q (r ∷ rs) end laid busy = let k = used_end_low (at + q.size) r rs end laid.2 in omega (arith, k, laid.0.some)
@@ -424,13 +409,10 @@ spans_given old new file pos c laid full s =
           | inl held ↦ let e = ends_mid.each r.0 r.1 held in inl (omega (arith, e, r.3, c.sized))
           | inr kept ↦ elim (cases_le (used_end mid) (length file)) [
             | inl low ↦ inl (omega (arith, low, c.sized))
-            | inr high ↦ inr (
-              r.0.pos,
-              r.0.size,
-              subst (Has (reserved_piece r.0.pos r.0.size)) (sym c.now) (has_trimmed mid _ (reserved_piece r.0.pos r.0.size) refl
-                  (subst (λ (p : Piece). Has p mid) (reserved_form 0 mid old.size r.0 laid_mid r.1 kept) r.1)),
-              omega (arith, high, c.sized, r.3),
-            )
+            | inr high ↦ inr (r.0.pos, r.0.size,
+                subst (Has (reserved_piece r.0.pos r.0.size)) (sym c.now) (has_trimmed mid _ (reserved_piece r.0.pos r.0.size) refl
+                (subst (λ (p : Piece). Has p mid) (reserved_form 0 mid old.size r.0 laid_mid r.1 kept) r.1)),
+                omega (arith, high, c.sized, r.3))
           ]
         ]
       ];

@@ -67,18 +67,16 @@ not_place pos (inr parent) place = place.1 parent
 -- ---- the spaces that the file names, once an entry is staged for a track that had none
 
 module _ (l : Layout) (s n : Stages) (file : List ℕ) (t : ℕ) (e : L2Entry) (low : t < track_count l.geo) (fresh : entry_for t s.entries ≡ None) (st : StagesEntry t e s n) where
+
   use_fewer : (x : Extent) → IsInUse l n file x → IsInUse l s file x × (x ≡ stored_space t (entry_at l file t) → ⊥)
   use_fewer x h = elim h [
     | inl area ↦ (inl area, owners_differ x (stored_space t (entry_at l file t)) (λ o. let k : Header ≡ Track t = sym (ap (λ (y : Extent). y.owner) area) ∙ o in cc))
-    | inr (inl table) ↦ (
-      inr (inl (table.0, (λ m. table.1 (moved_as table.0 s n (st.words table.0) m)), table.2)),
-      owners_differ x (stored_space t (entry_at l file t)) (λ o. let k : Table table.0 ≡ Track t = sym (ap (λ (y : Extent). y.owner) table.2.is) ∙ o in cc),
-    )
+    | inr (inl table) ↦ (inr (inl (table.0, (λ m. table.1 (moved_as table.0 s n (st.words table.0) m)), table.2)),
+        owners_differ x (stored_space t (entry_at l file t)) (λ o. let k : Table table.0 ≡ Track t = sym (ap (λ (y : Extent). y.owner) table.2.is) ∙ o in cc))
     | inr (inr track) ↦ (
-        let other : t ≡ track.0 → ⊥ = λ same. track.1 (subst (λ (u : ℕ). IsStaged u n) same (some_staged t e n st.here)) in (
-          inr (inr (track.0, (λ m. track.1 (staged_as track.0 s n (st.others track.0 other) m)), track.2)),
-          owners_differ x (stored_space t (entry_at l file t)) (λ o. let k : Track track.0 ≡ Track t = sym (ap (λ (y : Extent). y.owner) track.2.is) ∙ o in other (let q : track.0 ≡ t = cc in sym q)),
-        ))
+        let other : t ≡ track.0 → ⊥ = λ same. track.1 (subst (λ (u : ℕ). IsStaged u n) same (some_staged t e n st.here)) in
+        (inr (inr (track.0, (λ m. track.1 (staged_as track.0 s n (st.others track.0 other) m)), track.2)),
+        owners_differ x (stored_space t (entry_at l file t)) (λ o. let k : Track track.0 ≡ Track t = sym (ap (λ (y : Extent). y.owner) track.2.is) ∙ o in other (let q : track.0 ≡ t = cc in sym q))))
   ]
 
   use_more : (x : Extent) → IsInUse l s file x → (x ≡ stored_space t (entry_at l file t) → ⊥) → IsInUse l n file x
@@ -188,21 +186,18 @@ owner_again s t o again x h own = elim h [
 ]
 
 module _ (s n : Stages) (t : ℕ) (e : L2Entry) (st : StagesEntry t e s n) where
+
   new_or_old : (x : Extent) → IsNew n x → ((x ≡ stored_space t e) × IsPlace e.pos) ⊎ (IsNew s x × (x.owner ≡ Track t → ⊥))
   new_or_old x h = elim h [
-    | inl table ↦ inr (
-      inl (table.0, record { pos = table.1.pos; named = sym (st.words table.0) ∙ table.1.named; is = table.1.is }),
-      λ own. let k : Table table.0 ≡ Track t = sym (ap (λ (y : Extent). y.owner) table.1.is) ∙ own in cc,
-    )
+    | inl table ↦ inr (inl (table.0, record { pos = table.1.pos; named = sym (st.words table.0) ∙ table.1.named; is = table.1.is }),
+        λ own. let k : Table table.0 ≡ Track t = sym (ap (λ (y : Extent). y.owner) table.1.is) ∙ own in cc)
     | inr track ↦ elim (cases_eq t track.0) [
       | inl same ↦
           let there : entry_for t n.entries ≡ Some track.1.entry = subst (λ (u : ℕ). entry_for u n.entries ≡ Some track.1.entry) (sym same) track.1.named in
           let one : track.1.entry ≡ e = (let f : Some track.1.entry ≡ Some e = sym there ∙ st.here in cc) in
           inl (track.1.is ∙ (ap (λ (u : ℕ). stored_space u track.1.entry) (sym same) ∙ ap (stored_space t) one), subst (λ (y : L2Entry). IsPlace y.pos) one track.1.place)
-      | inr other ↦ inr (
-        inr (track.0, record { entry = track.1.entry; named = sym (st.others track.0 other) ∙ track.1.named; place = track.1.place; is = track.1.is }),
-        λ own. let k : Track track.0 ≡ Track t = sym (ap (λ (y : Extent). y.owner) track.1.is) ∙ own in other (let q : track.0 ≡ t = cc in sym q),
-      )
+      | inr other ↦ inr (inr (track.0, record { entry = track.1.entry; named = sym (st.others track.0 other) ∙ track.1.named; place = track.1.place; is = track.1.is }),
+          λ own. let k : Track track.0 ≡ Track t = sym (ap (λ (y : Extent). y.owner) track.1.is) ∙ own in other (let q : track.0 ≡ t = cc in sym q))
     ]
   ]
 
@@ -283,6 +278,7 @@ none_moved g s e h = absurd_none (place_for g s.words) e h
 -- ---- the same for the table of a group that had no staged word
 
 module _ (l : Layout) (s n : Stages) (file : List ℕ) (g pos : ℕ) (low : g < l.groups) (fresh : place_for g s.words ≡ None) (st : StagesWord g pos s n) where
+
   word_staged : (u : ℕ) → IsStaged u s → IsStaged u n
   word_staged u h = staged_as u s n (st.entries u) h
 
@@ -296,14 +292,11 @@ module _ (l : Layout) (s n : Stages) (file : List ℕ) (g pos : ℕ) (low : g < 
   table_fewer x h = elim h [
     | inl area ↦ (inl area, owners_differ x (table_space g (word_at l file g)) (λ o. let k : Header ≡ Table g = sym (ap (λ (y : Extent). y.owner) area) ∙ o in cc))
     | inr (inl table) ↦ (
-        let other : g ≡ table.0 → ⊥ = λ same. table.1 (subst (λ (u : ℕ). IsMoved u n) same (some_moved g pos n st.here)) in (
-          inr (inl (table.0, (λ m. table.1 (word_moved table.0 m)), table.2)),
-          owners_differ x (table_space g (word_at l file g)) (λ o. let k : Table table.0 ≡ Table g = sym (ap (λ (y : Extent). y.owner) table.2.is) ∙ o in other (let q : table.0 ≡ g = cc in sym q)),
-        ))
-    | inr (inr track) ↦ (
-      inr (inr (track.0, (λ m. track.1 (word_staged track.0 m)), track.2)),
-      owners_differ x (table_space g (word_at l file g)) (λ o. let k : Track track.0 ≡ Table g = sym (ap (λ (y : Extent). y.owner) track.2.is) ∙ o in cc),
-    )
+        let other : g ≡ table.0 → ⊥ = λ same. table.1 (subst (λ (u : ℕ). IsMoved u n) same (some_moved g pos n st.here)) in
+        (inr (inl (table.0, (λ m. table.1 (word_moved table.0 m)), table.2)),
+        owners_differ x (table_space g (word_at l file g)) (λ o. let k : Table table.0 ≡ Table g = sym (ap (λ (y : Extent). y.owner) table.2.is) ∙ o in other (let q : table.0 ≡ g = cc in sym q))))
+    | inr (inr track) ↦ (inr (inr (track.0, (λ m. track.1 (word_staged track.0 m)), track.2)),
+        owners_differ x (table_space g (word_at l file g)) (λ o. let k : Track track.0 ≡ Table g = sym (ap (λ (y : Extent). y.owner) track.2.is) ∙ o in cc))
   ]
 
   table_more : (x : Extent) → IsInUse l s file x → (x ≡ table_space g (word_at l file g) → ⊥) → IsInUse l n file x

@@ -96,13 +96,10 @@ current_staged l s n claims rest old new file t e fresh st can takes b laid c = 
   spans = left_spans old new file (entry_at l file t).pos b laid c.spans;
   accounts = subst (Accounts (IsInUse l n file) (IsReplaced l n file) (IsPlaced n rest)) (sym b.now)
       (entry_reserved s n t e st (IsInUse l n file) (IsReplaced l n file) (IsPlaced s claims) claims rest (left_at (entry_at l file t).pos old.pieces) takes c.claims_are
-      (λ x h. (
-        h,
-        λ own. elim h [
-          | inl new ↦ owner_fresh s t fresh x new own
-          | inr among ↦ let none = among_owner claims x c.claims_are among in let k : Nobody ≡ Track t = sym none ∙ own in cc
-        ],
-      ))
+      (λ x h. (h, λ own. elim h [
+        | inl new ↦ owner_fresh s t fresh x new own
+        | inr among ↦ let none = among_owner claims x c.claims_are among in let k : Nobody ≡ Track t = sym none ∙ own in cc
+      ]))
       (λ x h own. h)
       (entry_leaves l s n file t e can.low fresh st (IsPlaced s claims) old.pieces old.size c.spans.laid c.accounts));
   claims_are = rest_claims e claims rest takes c.claims_are;
@@ -119,11 +116,9 @@ given_accounts U L s claims old new len t o again place laid may a =
     let z = stored_space t o in
     let rz : IsPlaced s claims z = inl (inr (t, record { entry = o; named = again; place = place; is = refl })) in
     let f = placed_at z old.pieces old.size laid (a.reserved.there z rz) in
-    let b = may.given (subst (λ (p : Option Piece). IsSome p) (sym f) refl) in (
-      b,
-      subst (Accounts U L (λ x. IsPlaced s claims x × (x ≡ z → ⊥))) (sym b.now)
-          (accounts_cut U L (λ x. IsPlaced s claims x × (x ≡ z → ⊥)) len old.size (given_back z.pos old.pieces) (accounts_given U L (IsPlaced s claims) z old.pieces old.size laid rz a)),
-    )
+    let b = may.given (subst (λ (p : Option Piece). IsSome p) (sym f) refl) in
+    (b, subst (Accounts U L (λ x. IsPlaced s claims x × (x ≡ z → ⊥))) (sym b.now)
+    (accounts_cut U L (λ x. IsPlaced s claims x × (x ≡ z → ⊥)) len old.size (given_back z.pos old.pieces) (accounts_given U L (IsPlaced s claims) z old.pieces old.size laid rz a)))
 
 -- what is staged stays staged
 again_staged : (s n : Stages) (t : ℕ) (e : L2Entry) → StagesEntry t e s n → (u : ℕ) → IsStaged u s → IsStaged u n
@@ -150,13 +145,10 @@ pub current_again_none : (l : Layout) (s n : Stages) (claims rest : List Extent)
 current_again_none l s n claims rest plan file t e o again none st can takes c = record {
   spans = c.spans;
   accounts = entry_reserved s n t e st (IsInUse l n file) (IsReplaced l n file) (IsPlaced s claims) claims rest plan.pieces takes c.claims_are
-      (λ x h. (
-        h,
-        λ own. elim h [
-          | inl new ↦ none (owner_again s t o again x new own).1
-          | inr among ↦ let nobody = among_owner claims x c.claims_are among in let k : Nobody ≡ Track t = sym nobody ∙ own in cc
-        ],
-      ))
+      (λ x h. (h, λ own. elim h [
+        | inl new ↦ none (owner_again s t o again x new own).1
+        | inr among ↦ let nobody = among_owner claims x c.claims_are among in let k : Nobody ≡ Track t = sym nobody ∙ own in cc
+      ]))
       (λ x h own. h)
       (accounts_same (IsInUse l s file) (IsReplaced l s file) (IsPlaced s claims) (IsInUse l n file) (IsReplaced l n file) (IsPlaced s claims) plan.pieces
       (use_as l s n file (again_unmoved s n t e st) (again_unstaged s n t e o st again)) (use_as l n s file (again_moved s n t e st) (again_staged s n t e st))
@@ -177,13 +169,10 @@ current_again l s n claims rest old new file t e o again place st can takes may 
     record {
       spans = spans_given old new file o.pos k.0 laid full c.spans;
       accounts = entry_reserved s n t e st (IsInUse l n file) (IsReplaced l n file) R claims rest new.pieces takes c.claims_are
-          (λ x h. (
-            h.0,
-            λ own. elim h.0 [
-              | inl fresh ↦ h.1 (owner_again s t o again x fresh own).0
-              | inr among ↦ let nobody = among_owner claims x c.claims_are among in let q : Nobody ≡ Track t = sym nobody ∙ own in cc
-            ],
-          ))
+          (λ x h. (h.0, λ own. elim h.0 [
+            | inl fresh ↦ h.1 (owner_again s t o again x fresh own).0
+            | inr among ↦ let nobody = among_owner claims x c.claims_are among in let q : Nobody ≡ Track t = sym nobody ∙ own in cc
+          ]))
           (λ x h own. (h, owners_differ x z own))
           (accounts_same (IsInUse l s file) (IsReplaced l s file) R (IsInUse l n file) (IsReplaced l n file) R new.pieces
           (use_as l s n file (again_unmoved s n t e st) (again_unstaged s n t e o st again)) (use_as l n s file (again_moved s n t e st) (again_staged s n t e st))

@@ -184,7 +184,6 @@ put_each P v slot old new bytes plan result kept some told s puts made stops eac
         (λ es h f o.
         let k = h f o in
         kept.step k.0 f (put_whole v.layout v.plan n k.0 f some s.now.spans.laid r.within s.now.spans.short s.now.spans.limited k.2 (s.each k.0 k.1)) (each k.0 k.1)) (stops told)
-
     by : (x : Result ℕ PutFault) → Puts (length bytes) v.plan plan x → MakesPut slot (place_of (length bytes) v.plan.pieces) bytes x old new → AtEach old.world.events new.world.events (EachOutcome slot P)
     by (Ok pos) p m = step p.1
     by (Err (fault.Full full)) p m = kept_at (EachOutcome slot P) old.world new.world (m told) each

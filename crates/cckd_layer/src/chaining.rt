@@ -14,12 +14,7 @@ use cckd_space::Space;
 
 /// Writes the chain: each free space of at least 8 bytes begins with the place of the next one, or 0, and with its own
 /// length.
-pub fn put_chain<S: Shelf>(
-    shelf: &mut S,
-    slot: Slot,
-    space: &Space,
-    order: Order,
-) -> Result<(), Failed>
+pub fn put_chain<S: Shelf>(shelf: &mut S, slot: Slot, space: &Space, order: Order) -> Result<(), Failed>
     ensures now { Tells (seen S.Shows shelf.old) → OnOk result (file_of (seen S.Shows shelf.new).world slot
         ≡ chained order (roomy_from 0 space.now.pieces) (file_of (seen S.Shows shelf.old).world slot)) }
     ensures sure { Tells (seen S.Shows shelf.old) → IsSure (seen S.Shows shelf.old).world → OnOk result (IsSure (seen S.Shows shelf.new).world) }

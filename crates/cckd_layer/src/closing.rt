@@ -47,12 +47,7 @@ pub fn close_image<S: Shelf>(
 }
 
 /// Writes the chain, and makes it stay.
-fn keep_chain<S: Shelf>(
-    shelf: &mut S,
-    slot: Slot,
-    space: &Space,
-    order: Order,
-) -> Result<(), Device>
+fn keep_chain<S: Shelf>(shelf: &mut S, slot: Slot, space: &Space, order: Order) -> Result<(), Device>
     ensures now { Tells (seen S.Shows shelf.old) → OnOk result (file_of (seen S.Shows shelf.new).world slot
         ≡ chained order (roomy_from 0 space.now.pieces) (file_of (seen S.Shows shelf.old).world slot)) }
     ensures sure { Tells (seen S.Shows shelf.old) → IsSure (seen S.Shows shelf.old).world → OnOk result (IsSure (seen S.Shows shelf.new).world) }

@@ -17,7 +17,8 @@ pub fn puts_stand()
     ensures { (v : LayerView) (slot : ℕ) (w after : World) (new : Plan) (bytes : List ℕ) → 0 < length bytes → Stands v slot w → IsReserved (length bytes) v.plan new
         → IsLaid 0 new.pieces new.size → after ≡ after_write slot (place_of (length bytes) v.plan.pieces) bytes w
         → Stands (record v { claims = claim (place_of (length bytes) v.plan.pieces) (length bytes) ∷ v.claims; plan = new }) slot after }
-{}
+{
+}
 
 /// What is staged can be committed. Whatever a stop leaves in between keeps within what was hardened and written since; and behind the
 /// commit the layer stands with nothing staged, and its file holds its map.
@@ -32,10 +33,12 @@ pub fn commits_stand()
         → Stands (record v { stages = nothing_staged; plan = new }) slot after }
     ensures holds { (null : NullBytes) (v : LayerView) (slot : ℕ) (w : World) (file : List ℕ) → AreRising v.stages → Stands v slot w
         → IsCommittedFrom v.layout v.stages (file_of w slot) file → Holds null v.layout (held null v.layout v.stages (file_of w slot)) file }
-{}
+{
+}
 
 /// Where each outcome is the file now, what is Pending can be released.
 pub fn releases_stand()
     ensures { (v : LayerView) (new : Plan) (slot : ℕ) (w : World) → Becomes v.plan new (merged (map released v.plan.pieces)) v.plan.size → IsLaid 0 new.pieces new.size
         → EachOutcome slot (λ file. file ≡ file_of w slot) w.events → Stands v slot w → Stands (record v { plan = new }) slot w }
-{}
+{
+}
