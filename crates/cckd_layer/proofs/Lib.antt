@@ -32,4 +32,5 @@ pub mod StageLemmas
 pub mod StagedLemmas
 pub mod StandLemmas
 pub mod StepLemmas
+pub mod SwapLemmas
 pub mod WritesLemmas
