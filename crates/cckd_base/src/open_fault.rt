@@ -10,7 +10,7 @@ pub enum OpenFault {
         slot: u8,
         fault: HeaderFault,
     },
-    /// The slot has no file, and a later slot has one.
+    /// The slot has a file, and the slot before it has none.
     Gap {
         slot: u8,
     },

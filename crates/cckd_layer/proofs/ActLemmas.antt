@@ -35,17 +35,17 @@ left_missing plan pos o h e =
     let same : all ≡ plan.pieces = replaced_none (is_used_at pos) (λ p. left p ∷ []) plan.pieces none in
     let is : left_at pos plan.pieces ≡ plan.pieces = cond_both (pos == 0) plan.pieces (cond (pos == see_parent) plan.pieces all) (λ (qs : List Piece). qs ≡ plan.pieces) (λ _. refl)
     (λ _. cond_both (pos == see_parent) plan.pieces all (λ (qs : List Piece). qs ≡ plan.pieces) (λ _. refl) (λ _. same)) in
-    subst (λ (qs : List Piece). Becomes plan plan qs plan.size) (sym is) (record { now = refl; sized = refl; limit = refl; spare = refl })
+    subst (λ (qs : List Piece). Becomes plan plan qs plan.size) (sym is) (record { made = refl; sized = refl; limit = refl; spare = refl })
 
 pub becomes_nothing : (plan : Plan) → Becomes plan plan plan.pieces plan.size
-becomes_nothing plan = record { now = refl; sized = refl; limit = refl; spare = refl }
+becomes_nothing plan = record { made = refl; sized = refl; limit = refl; spare = refl }
 
 -- two changes in a row
 pub becomes_then : (a b c : Plan) (xs ys : List Extent) → Becomes a b (settled_all xs a.pieces) a.size → Becomes b c (settled_all ys b.pieces) b.size → Becomes a c (settled_all (xs ++ ys) a.pieces) a.size
 becomes_then a b c xs ys f g =
     let now : c.pieces ≡ settled_all (xs ++ ys) a.pieces = g.now ∙ (ap (settled_all ys) f.now ∙ sym (settled_append xs ys a.pieces)) in
     record {
-      now = now;
+      made = now;
       sized = g.sized ∙ f.sized;
       limit = g.limit ∙ f.limit;
       spare =
@@ -112,14 +112,14 @@ pub staged_settled : (a b c d : Plan) (es : List StagedEntry) (ws : List StagedW
 staged_settled a b c d es ws f g h =
     let both = becomes_then a b c (entry_spaces es) (word_spaces ws) f g in
     record {
-      now = h.now ∙ ap (map retired) both.now;
+      made = h.made ∙ ap (map retired) both.made;
       sized = h.sized ∙ both.sized;
       limit = h.limit ∙ both.limit;
       spare =
           let first = both.spare in
           let second = h.spare in
-          let p = ap length both.now in
-          let q = ap length h.now in
-          let r = ap length (ap (map retired) both.now) in
+          let p = ap length both.made in
+          let q = ap length h.made in
+          let r = ap length (ap (map retired) both.made) in
           omega (arith, first, second, p, q, r);
     }

@@ -173,7 +173,7 @@ unclaimed l s claims old new pos n file may laid full c =
     let R : Extent → Type 0 = λ x. K x × (x ≡ z → ⊥) in
     let f = placed_at z old.pieces old.size c.spans.laid (c.accounts.reserved.there z (inr (inl refl))) in
     let b = may.given (subst (λ (p : Option Piece). IsSome p) (sym f) refl) in
-    let a : Accounts U L R new.pieces = subst (Accounts U L R) (sym b.now)
+    let a : Accounts U L R new.pieces = subst (Accounts U L R) (sym b.made)
     (accounts_cut U L R (length file) old.size (given_back pos old.pieces) (accounts_given U L K z old.pieces old.size c.spans.laid (inr (inl refl)) c.accounts)) in (
       b,
       record {

@@ -289,7 +289,7 @@ no_new x h = elim h [
 pub current_committed : (l : Layout) (s : Stages) (claims : List Extent) (was mid file : List ℕ) (old new : Plan) → AreRising s → IsLayout l → Current l s claims old was → IsSynced l s was mid → IsCommitted l mid s file
     → Becomes old new (committed_pieces s old.pieces) old.size → IsLaid 0 new.pieces new.size → Current l nothing_staged claims new file
 current_committed l s claims was mid file old new rising layout c sync done b laid =
-    let k = after_commit l s claims was mid old new rising c sync b.now in
+    let k = after_commit l s claims was mid old new rising c sync b.made in
     let same : length file ≡ length mid = done.blend.size in
     let most : length mid ≤ old.size =
     sync.near.no_longer old.size c.spans.covers (all_found (λ w. w.pos + 2048 ≤ old.size) s.words rising.groups
@@ -349,7 +349,7 @@ stands_committed v new slot w after rising h sure each now b laid =
           let ready = ready_of l v.stages was k.0 layout k.1 in
           record {
             whole = (blend_whole l v.stages k.0 f x.whole ready k.2).0;
-            rests = blend_rests l v.stages v.claims was k.0 f v.plan new sits.rests k.1 (after_commit l v.stages v.claims was k.0 v.plan new rising h.now k.1 b.now) k.2;
+            rests = blend_rests l v.stages v.claims was k.0 f v.plan new sits.rests k.1 (after_commit l v.stages v.claims was k.0 v.plan new rising h.now k.1 b.made) k.2;
           };
       marked = λ m f o. commit_marked v slot w rising h (h.marked m) f (inr (each f o));
     }

@@ -96,7 +96,7 @@ current_placed l s claims old new file need some full b laid within c =
     accounts_placed (IsInUse l s file) (IsReplaced l s file) (IsPlaced s claims) need old.pieces old.size some c.spans.laid c.accounts in
     record {
       spans = spans_placed old new file need some full b laid within c.spans;
-      accounts = subst (Accounts (IsInUse l s file) (IsReplaced l s file) (IsPlaced s (claim pos need ∷ claims))) (sym b.now)
+      accounts = subst (Accounts (IsInUse l s file) (IsReplaced l s file) (IsPlaced s (claim pos need ∷ claims))) (sym b.made)
           (accounts_same (IsInUse l s file) (IsReplaced l s file) (λ e. IsPlaced s claims e ⊎ (claim pos need ≡ e)) (IsInUse l s file) (IsReplaced l s file) (IsPlaced s (claim pos need ∷ claims)) (with_reserved need old.pieces)
           (λ e h. h) (λ e h. h) (λ e h. h) (λ e h. h)
           (λ e h. elim h [ inl (inl new) ↦ inl new | inl (inr among) ↦ inr (inr among) | inr same ↦ inr (inl same) ])

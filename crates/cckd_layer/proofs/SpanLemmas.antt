@@ -239,16 +239,16 @@ kept_reserved test f ps pos n other h = has_replaced test (λ q. f q ∷ []) ps 
 pub spans_left : (old new : Plan) (file : List ℕ) (pos : ℕ) → Becomes old new (replaced (is_used_at pos) (λ p. left p ∷ []) old.pieces) old.size → IsLaid 0 new.pieces new.size
     → Spans old file → Spans new file
 spans_left old new file pos b laid s =
-    spans_by old new file laid b.sized b.limit (subst (EndsBy (length file)) (sym b.now) (ends_left (length file) pos old.pieces (spans_ends old file s)))
-    (λ at n h. inr (subst (Has (reserved_piece at n)) (sym b.now) (kept_reserved (is_used_at pos) left old.pieces at n refl h))) s
+    spans_by old new file laid b.sized b.limit (subst (EndsBy (length file)) (sym b.made) (ends_left (length file) pos old.pieces (spans_ends old file s)))
+    (λ at n h. inr (subst (Has (reserved_piece at n)) (sym b.made) (kept_reserved (is_used_at pos) left old.pieces at n refl h))) s
 
 -- a Reserved piece is settled whose bytes are in the file
 pub spans_settled : (old new : Plan) (file : List ℕ) (x : Extent) → Becomes old new (replaced (is_reserved_at x.pos) (λ p. settled x.len x.owner p ∷ []) old.pieces) old.size
     → IsLaid 0 new.pieces new.size → Has (placed_piece x) old.pieces → x.pos + x.size ≤ length file → Spans old file → Spans new file
 spans_settled old new file x b laid there within s =
-    spans_by old new file laid b.sized b.limit (subst (EndsBy (length file)) (sym b.now) (ends_settled (length file) x old.pieces old.size s.laid there within (spans_ends old file s)))
+    spans_by old new file laid b.sized b.limit (subst (EndsBy (length file)) (sym b.made) (ends_settled (length file) x old.pieces old.size s.laid there within (spans_ends old file s)))
     (λ at n h. elim (cases_eq at x.pos) [
-      | inr other ↦ inr (subst (Has (reserved_piece at n)) (sym b.now) (kept_reserved (is_reserved_at x.pos) (settled x.len x.owner) old.pieces at n (ne_eqb at x.pos other) h))
+      | inr other ↦ inr (subst (Has (reserved_piece at n)) (sym b.made) (kept_reserved (is_reserved_at x.pos) (settled x.len x.owner) old.pieces at n (ne_eqb at x.pos other) h))
       | inl same ↦
           let y : Extent = record { pos = at; len = n; size = n; owner = x.owner } in
           let f = placed_at y old.pieces old.size s.laid h in
@@ -261,14 +261,14 @@ spans_settled old new file x b laid there within s =
 -- what leaves is replaced
 pub spans_retired : (old new : Plan) (file : List ℕ) → Becomes old new (map retired old.pieces) old.size → IsLaid 0 new.pieces new.size → Spans old file → Spans new file
 spans_retired old new file b laid s =
-    spans_by old new file laid b.sized b.limit (subst (EndsBy (length file)) (sym b.now) (ends_retired (length file) old.pieces (spans_ends old file s)))
-    (λ at n h. inr (subst (Has (reserved_piece at n)) (sym b.now) (has_map retired old.pieces (reserved_piece at n) h))) s
+    spans_by old new file laid b.sized b.limit (subst (EndsBy (length file)) (sym b.made) (ends_retired (length file) old.pieces (spans_ends old file s)))
+    (λ at n h. inr (subst (Has (reserved_piece at n)) (sym b.made) (has_map retired old.pieces (reserved_piece at n) h))) s
 
 -- Pending becomes Free
 pub spans_released : (old new : Plan) (file : List ℕ) → Becomes old new (merged (map released old.pieces)) old.size → IsLaid 0 new.pieces new.size → Spans old file → Spans new file
 spans_released old new file b laid s =
-    spans_by old new file laid b.sized b.limit (subst (EndsBy (length file)) (sym b.now) (ends_released (length file) old.pieces (spans_ends old file s)))
-    (λ at n h. inr (subst (Has (reserved_piece at n)) (sym b.now) (has_merged (map released old.pieces) (reserved_piece at n) refl (has_map released old.pieces (reserved_piece at n) h)))) s
+    spans_by old new file laid b.sized b.limit (subst (EndsBy (length file)) (sym b.made) (ends_released (length file) old.pieces (spans_ends old file s)))
+    (λ at n h. inr (subst (Has (reserved_piece at n)) (sym b.made) (has_merged (map released old.pieces) (reserved_piece at n) refl (has_map released old.pieces (reserved_piece at n) h)))) s
 
 -- bytes are placed at the end where they fit nowhere else, and then the file is no shorter
 grows_to : (need at : ℕ) (ps : List Piece) (end : ℕ) → IsLaid at ps end → first (has_room need) ps ≡ None → 0 < length ps → end ≤ end_place ps + need
@@ -326,7 +326,7 @@ pub spans_placed : (old new : Plan) (file : List ℕ) (need : ℕ) → 0 < need 
 spans_placed old new file need some full b laid within s =
     let size = placed_size need old some s.laid full in
     let there : Has (reserved_piece (place_of need old.pieces) need) new.pieces =
-    subst (Has (reserved_piece (place_of need old.pieces) need)) (sym b.now)
+    subst (Has (reserved_piece (place_of need old.pieces) need)) (sym b.made)
     (first_has (is_reserved_at (place_of need old.pieces)) (with_reserved need old.pieces) (reserved_piece (place_of need old.pieces) need) (placed_found need old.pieces old.size some s.laid)).0 in
     record {
       laid = laid;
@@ -335,10 +335,10 @@ spans_placed old new file need some full b laid within s =
         | inr at_end ↦ inr (place_of need old.pieces, need, there, sym (b.sized ∙ at_end))
         | inl same ↦ elim s.ends [
           | inl low ↦ inl (omega (arith, low, same, b.sized))
-          | inr r ↦ inr (r.0, r.1, subst (Has (reserved_piece r.0 r.1)) (sym b.now) (placed_keeps need old.pieces (reserved_piece r.0 r.1) refl r.2), omega (arith, r.3, same, b.sized))
+          | inr r ↦ inr (r.0, r.1, subst (Has (reserved_piece r.0 r.1)) (sym b.made) (placed_keeps need old.pieces (reserved_piece r.0 r.1) refl r.2), omega (arith, r.3, same, b.sized))
         ]
       ];
-      inside = (subst (EndsBy (length file)) (sym b.now) (ends_placed (length file) need old.pieces (spans_ends old file s))).each;
+      inside = (subst (EndsBy (length file)) (sym b.made) (ends_placed (length file) need old.pieces (spans_ends old file s))).each;
       short = elim size.1 [
         | inl same ↦ omega (arith, same, b.sized, s.short)
         | inr at_end ↦ omega (arith, at_end, b.sized, within, s.short, s.limited)
@@ -425,14 +425,14 @@ spans_given old new file pos c laid full s =
             | inr high ↦ inr (
               r.0.pos,
               r.0.size,
-              subst (Has (reserved_piece r.0.pos r.0.size)) (sym c.now) (has_trimmed mid _ (reserved_piece r.0.pos r.0.size) refl
+              subst (Has (reserved_piece r.0.pos r.0.size)) (sym c.made) (has_trimmed mid _ (reserved_piece r.0.pos r.0.size) refl
                   (subst (λ (p : Piece). Has p mid) (reserved_form 0 mid old.size r.0 laid_mid r.1 kept) r.1)),
               omega (arith, high, c.sized, r.3),
             )
           ]
         ]
       ];
-      inside = (subst (EndsBy (length file)) (sym c.now) (ends_cut (length file) (length file) old.size mid ends_mid)).each;
+      inside = (subst (EndsBy (length file)) (sym c.made) (ends_cut (length file) (length file) old.size mid ends_mid)).each;
       short = omega (arith, s.short, c.sized, within);
       limited = omega (arith, s.limited, c.limit);
     }

@@ -77,7 +77,7 @@ words_can l s n t e st old g pos h = old g pos (sym (st.words g) ∙ h)
 left_spans : (old new : Plan) (file : List ℕ) (pos : ℕ) → Becomes old new (left_at pos old.pieces) old.size → IsLaid 0 new.pieces new.size → Spans old file → Spans new file
 left_spans old new file pos b laid s = elim (place_or_not pos) [
   | inl place ↦ spans_left old new file pos (subst (λ (ps : List Piece). Becomes old new ps old.size) (left_is pos old.pieces place) b) laid s
-  | inr none ↦ spans_same old new file (b.now ∙ left_none pos old.pieces none) b.sized b.limit s
+  | inr none ↦ spans_same old new file (b.made ∙ left_none pos old.pieces none) b.sized b.limit s
 ]
 
 left_held : (pos : ℕ) (ps : List Piece) (end : ℕ) → IsLaid 0 ps end → KeepsHeld ps (left_at pos ps)
@@ -92,7 +92,7 @@ pub current_staged : (l : Layout) (s n : Stages) (claims rest : List Extent) (ol
     → Current l s claims old file → Current l n rest new file
 current_staged l s n claims rest old new file t e fresh st can takes b laid c = record {
   spans = left_spans old new file (entry_at l file t).pos b laid c.spans;
-  accounts = subst (Accounts (IsInUse l n file) (IsReplaced l n file) (IsPlaced n rest)) (sym b.now)
+  accounts = subst (Accounts (IsInUse l n file) (IsReplaced l n file) (IsPlaced n rest)) (sym b.made)
       (entry_reserved s n t e st (IsInUse l n file) (IsReplaced l n file) (IsPlaced s claims) claims rest (left_at (entry_at l file t).pos old.pieces) takes c.claims_are
       (λ x h. (
         h,
@@ -119,7 +119,7 @@ given_accounts U L s claims old new len t o again place laid may a =
     let f = placed_at z old.pieces old.size laid (a.reserved.there z rz) in
     let b = may.given (subst (λ (p : Option Piece). IsSome p) (sym f) refl) in (
       b,
-      subst (Accounts U L (λ x. IsPlaced s claims x × (x ≡ z → ⊥))) (sym b.now)
+      subst (Accounts U L (λ x. IsPlaced s claims x × (x ≡ z → ⊥))) (sym b.made)
           (accounts_cut U L (λ x. IsPlaced s claims x × (x ≡ z → ⊥)) len old.size (given_back z.pos old.pieces) (accounts_given U L (IsPlaced s claims) z old.pieces old.size laid rz a)),
     )
 
@@ -199,7 +199,7 @@ pub current_word : (l : Layout) (s n : Stages) (rest : List Extent) (old new : P
     → Current l s (claim pos 2048 ∷ rest) old file → Current l n rest new file
 current_word l s n rest old new file g pos fresh st can b laid c = record {
   spans = left_spans old new file (word_at l file g) b laid c.spans;
-  accounts = subst (Accounts (IsInUse l n file) (IsReplaced l n file) (IsPlaced n rest)) (sym b.now)
+  accounts = subst (Accounts (IsInUse l n file) (IsReplaced l n file) (IsPlaced n rest)) (sym b.made)
       (word_takes l s n file g pos can.low fresh st (IsInUse l n file) (IsReplaced l n file) rest (left_at (word_at l file g) old.pieces) c.claims_are
       (table_leaves l s n file g pos can.low fresh st (IsPlaced s (claim pos 2048 ∷ rest)) old.pieces old.size c.spans.laid c.accounts));
   claims_are = c.claims_are.2;
@@ -238,7 +238,7 @@ pub stands_staged : (v : LayerView) (n : Stages) (rest : List Extent) (new : Pla
     → Stands v slot w → Stands (record v { stages = n; claims = rest; plan = new }) slot w
 stands_staged v n rest new slot w t e fresh st can takes b laid h =
     let pos = (entry_at v.layout (file_of w slot) t).pos in
-    stands_by v n rest new slot w (subst (KeepsHeld v.plan.pieces) (sym b.now) (left_held pos v.plan.pieces v.plan.size h.now.spans.laid))
+    stands_by v n rest new slot w (subst (KeepsHeld v.plan.pieces) (sym b.made) (left_held pos v.plan.pieces v.plan.size h.now.spans.laid))
     (current_staged v.layout v.stages n v.claims rest v.plan new (file_of w slot) t e fresh st can takes b laid h.now) h
 
 pub stands_again_none : (v : LayerView) (n : Stages) (rest : List Extent) (slot : ℕ) (w : World) (t : ℕ) (e o : L2Entry) → entry_for t v.stages.entries ≡ Some o → (IsPlace o.pos → ⊥) → StagesEntry t e v.stages n
@@ -263,7 +263,7 @@ pub stands_word : (v : LayerView) (n : Stages) (rest : List Extent) (new : Plan)
     → Stands v slot w → Stands (record v { stages = n; claims = rest; plan = new }) slot w
 stands_word v n rest new slot w g pos claimed fresh st can b laid h =
     let old = word_at v.layout (file_of w slot) g in
-    stands_by v n rest new slot w (subst (KeepsHeld v.plan.pieces) (sym b.now) (left_held old v.plan.pieces v.plan.size h.now.spans.laid))
+    stands_by v n rest new slot w (subst (KeepsHeld v.plan.pieces) (sym b.made) (left_held old v.plan.pieces v.plan.size h.now.spans.laid))
     (current_word v.layout v.stages n rest v.plan new (file_of w slot) g pos fresh st can b laid (subst (λ (cs : List Extent). Current v.layout v.stages cs v.plan (file_of w slot)) claimed h.now)) h
 
 -- ---- the layer's map

@@ -142,7 +142,7 @@ stands_put v slot w after new bytes some s r laid made =
     let P : List ℕ → Type 0 = λ f. Sits v.layout v.plan.pieces f in
     let step : (old f : List ℕ) → P old → WriteLeaves pos bytes old f → StaysWhole v.layout old f = λ old f h leaves.
     put_whole v.layout v.plan n old f some spans.laid r.within spans.short spans.limited (write_fills pos bytes old f leaves) h in
-    let keeps = subst (λ (qs : List Piece). KeepsHeld v.plan.pieces qs) (sym r.becomes.now) (held_placed n v.plan.pieces) in
+    let keeps = subst (λ (qs : List Piece). KeepsHeld v.plan.pieces qs) (sym r.becomes.made) (held_placed n v.plan.pieces) in
     record {
       sure = sure_wrote slot pos bytes w after made s.sure;
       now = subst (Current v.layout v.stages (claim pos n ∷ v.claims) new) (sym now) grown;
@@ -193,7 +193,7 @@ put_each P v slot old new bytes plan result kept some told s puts made stops eac
 
 pub stands_placed : (v : LayerView) (slot : ℕ) (w : World) (new : Plan) (n : ℕ) → 0 < n → Stands v slot w → IsReserved n v.plan new → IsLaid 0 new.pieces new.size → Stands (with_claim (place_of n v.plan.pieces) n new v) slot w
 stands_placed v slot w new n some s r laid =
-    let keeps = subst (λ (qs : List Piece). KeepsHeld v.plan.pieces qs) (sym r.becomes.now) (held_placed n v.plan.pieces) in
+    let keeps = subst (λ (qs : List Piece). KeepsHeld v.plan.pieces qs) (sym r.becomes.made) (held_placed n v.plan.pieces) in
     let area = (stands_sits v slot w s).whole.image.area in
     record {
       sure = s.sure;
@@ -244,7 +244,7 @@ pub current_released : (l : Layout) (s : Stages) (claims : List Extent) (old new
     → Current l s claims old file → Current l s claims new file
 current_released l s claims old new file b laid c = record {
   spans = spans_released old new file b laid c.spans;
-  accounts = subst (Accounts (IsInUse l s file) (IsReplaced l s file) (IsPlaced s claims)) (sym b.now) (accounts_released (IsInUse l s file) (IsReplaced l s file) (IsPlaced s claims) old.pieces c.accounts);
+  accounts = subst (Accounts (IsInUse l s file) (IsReplaced l s file) (IsPlaced s claims)) (sym b.made) (accounts_released (IsInUse l s file) (IsReplaced l s file) (IsPlaced s claims) old.pieces c.accounts);
   claims_are = c.claims_are;
   entries = c.entries;
   words = c.words;

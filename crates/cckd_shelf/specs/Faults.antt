@@ -16,10 +16,6 @@ count Syncs f = f.syncs
 count Takes f = f.takes
 count Puts f = f.puts
 
--- how many calls have failed, of all kinds
-abbrev pub total : Faults → ℕ
-total f = f.reads + f.writes + f.syncs + f.takes + f.puts
-
 -- the count rose, or stands at the last value of a `u64`
 abbrev pub Rose : ℕ → ℕ → Type 0
 Rose old new = min (old + 1) (2 ^ 64 - 1) ≤ new

@@ -78,10 +78,6 @@ EachStop P events = (files : ℕ → List ℕ) → IsCrashImage events files →
 abbrev pub EachHeld : ℕ → (List ℕ → Type 0) → List Event → Type 0
 EachHeld slot P events = (file : List ℕ) → MayHold events slot file → P file
 
--- every operation of the slot was synced, so that a stop leaves what the slot may hold
-abbrev pub IsSettled : ℕ → List Event → Type 0
-IsSettled slot events = EachOutcome slot (MayHold events slot) events
-
 -- each outcome of every other slot was one before
 abbrev pub OthersStill : ℕ → List Event → List Event → Type 0
 OthersStill slot old new = (other : ℕ) → (slot ≡ other → ⊥) → EachOutcome other (IsOutcome old other) new

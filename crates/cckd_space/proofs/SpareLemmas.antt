@@ -48,7 +48,7 @@ pieces_bound_behind (q ∷ qs) end p l h at n = elim h [
 
 -- no call but `grow` changes it
 pub slots_stay : (old new : Plan) (ps : List Piece) (size : ℕ) → Becomes old new ps size → new.spare + length new.pieces ≡ old.spare + length old.pieces
-slots_stay old new ps size b = let n = ap length b.now in omega (arith, b.spare, n)
+slots_stay old new ps size b = let n = ap length b.made in omega (arith, b.spare, n)
 
 -- and `grow` doesn't lower it
 pub slots_grow : (old new : Plan) → KeepsAllButSpare old new → old.spare + length old.pieces ≤ new.spare + length new.pieces

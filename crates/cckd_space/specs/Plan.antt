@@ -45,7 +45,7 @@ pub record CoversBytes (plan : Plan) : Type 0 where
 
 -- the pieces and the size are these now; the rest stays, and the spare pieces went where they were used
 pub record Becomes (old new : Plan) (pieces : List Piece) (size : ℕ) : Type 0 where
-  pub now : new.pieces ≡ pieces
+  pub made : new.pieces ≡ pieces
   pub sized : new.size ≡ size
   pub limit : new.limit ≡ old.limit
   pub spare : new.spare + length pieces ≡ old.spare + length old.pieces

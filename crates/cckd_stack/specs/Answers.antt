@@ -202,13 +202,22 @@ takes_memory call.Add = true
 takes_memory call.Merge = true
 takes_memory _ = false
 
+-- the calls that change files; the others read them alone
+abbrev pub changes_files : Call → Bool
+changes_files (call.Read at) = false
+changes_files (call.GetRecord at num) = false
+changes_files call.Display = false
+changes_files (call.Check level) = false
+changes_files _ = true
+
 -- A refusal that comes from outside of the disk, where no refusal of the disk comes before it: a fault of reading may come
--- once a layer is read, and want of room and the other faults once the call can't be refused any more.
+-- once a layer is read, and want of room and the other faults once the call can't be refused any more. A call that only
+-- reads has no fault of writing or syncing.
 abbrev pub IsOutside : Geometry → Stack → Request → Refusal → Type 0
 IsOutside g s r (refusal.Full full) = IsTrue (needs_room r.asked) × (refusal_to g s r ≡ None)
 IsOutside g s r refusal.ReadFault = first_refusal g s r ≡ None
-IsOutside g s r refusal.WriteFault = refusal_to g s r ≡ None
-IsOutside g s r refusal.SyncFault = refusal_to g s r ≡ None
+IsOutside g s r refusal.WriteFault = IsTrue (changes_files r.asked) × (refusal_to g s r ≡ None)
+IsOutside g s r refusal.SyncFault = IsTrue (changes_files r.asked) × (refusal_to g s r ≡ None)
 IsOutside g s r refusal.Memory = IsTrue (takes_memory r.asked) × (first_refusal g s r ≡ None)
 IsOutside g s r _ = ⊥
 

@@ -9,7 +9,7 @@ use Rattle.std.proofs.lemmas.Bool.{le-leb, lt-leb, cond-true, cond-false, cases_
 use Rattle.std.proofs.lemmas.List.Sorted.{IsPermutation-refl, IsPermutation-sym, IsPermutation-trans, IsPermutation-append_right, IsPermutation-middle, IsPermutation-to_front}
 use Rattle.cckd_base.specs.declared.space.Extent.{Extent}
 use Rattle.cckd_base.specs.Survey.{share_a_byte, lower, met, placed_among, by_position}
-use Rattle.cckd_tables.specs.Kept.{AreApart, HaveBytes, stand_apart, end_of, AreKeyed, KeepsOrder}
+use Rattle.cckd_tables.specs.Kept.{ShareNone, HaveBytes, stand_apart, end_of, AreKeyed, KeepsOrder}
 use Rattle.cckd_tables.proofs.MeetLemmas.{met_append, met_cons, met_by_position, none_before, share_not, apart_more}
 use Rattle.cckd_tables.proofs.OrderLemmas.{stand_parts, all_between, placed_moves, covers_moved, apart_moved, stand_is_order, position_stands, same_order, apart_in_order}
 use Rattle.cckd_tables.proofs.RunLemmas.{all_append, all_front, all_back, stand_push, end_push, ends_within, compared_less, compared_greater}
@@ -120,7 +120,7 @@ late_moves run vs e =
     (IsPermutation-sym (run ++ e ∷ vs) (e ∷ (run ++ vs)) (IsPermutation-middle run e vs))
     (IsPermutation-append_right run (e ∷ vs) (placed_among e vs) (placed_moves e vs))
 
-front_apart : (e : Extent) (xs : List Extent) → AreApart xs → met xs e ≡ None → AreApart (e ∷ xs)
+front_apart : (e : Extent) (xs : List Extent) → ShareNone xs → met xs e ≡ None → ShareNone (e ∷ xs)
 front_apart e xs a u =
     apart_moved (e ∷ xs) (xs ++ e ∷ []) (IsPermutation-sym (xs ++ e ∷ []) (e ∷ xs) (IsPermutation-to_front xs e)) (apart_more xs e a u)
 
@@ -132,7 +132,7 @@ module _ (run : List Extent) (late new : List (ℕ × Extent)) (e : Extent) (k :
   bytes : HaveBytes (e ∷ (run ++ values_of late))
   bytes = (s, k.bytes)
 
-  apart : AreApart (e ∷ (run ++ values_of late))
+  apart : ShareNone (e ∷ (run ++ values_of late))
   apart = front_apart e (run ++ values_of late) k.apart met_none
 
   moved : IsPermutation (e ∷ (run ++ values_of late)) (run ++ values_of new)
@@ -145,7 +145,7 @@ module _ (run : List Extent) (late new : List (ℕ × Extent)) (e : Extent) (k :
   late_keeps l =
       let vs = values_of late in
       let none = unmet_parts run vs e met_none in
-      let late_apart : AreApart vs = record { each = apart_in_order 0 vs k.late_ordered } in
+      let late_apart : ShareNone vs = record { each = apart_in_order 0 vs k.late_ordered } in
       record {
         bytes = covers_moved (e ∷ (run ++ vs)) (run ++ values_of new) moved (λ (x : Extent). 1 ≤ x.size) bytes;
         apart = apart_moved (run ++ values_of new) (e ∷ (run ++ vs)) (IsPermutation-sym (e ∷ (run ++ vs)) (run ++ values_of new) moved) apart;

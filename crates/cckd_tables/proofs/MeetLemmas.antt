@@ -4,7 +4,7 @@ use Rattle.std.specs.List.{AllByRecursion}
 use Rattle.std.proofs.lemmas.Bool.{leb-false, cond_both, lt-ltb, le-ltb, le-leb, lt-leb, and_from, and_left, and_right, cond-true, cond-false, cases_lt, cases_Bool}
 use Rattle.cckd_base.specs.declared.space.Extent.{Extent}
 use Rattle.cckd_base.specs.Survey.{share_a_byte, lower, met, placed_among, by_position}
-use Rattle.cckd_tables.specs.Kept.{holding, holders, AreApart}
+use Rattle.cckd_tables.specs.Kept.{holding, holders, ShareNone}
 
 pub hold_in : (at : ℕ) (e : Extent) → e.pos ≤ at → at < e.pos + e.size → holding at e ≡ 1
 hold_in at e low high = cond-true _ 1 0 (and_from _ _ (le-leb e.pos at low) (lt-ltb at (e.pos + e.size) high))
@@ -60,7 +60,7 @@ unmet (x ∷ xs) e h at low high =
     ] in
     omega arith
 
-pub apart_more : (xs : List Extent) (e : Extent) → AreApart xs → met xs e ≡ None → AreApart (xs ++ e ∷ [])
+pub apart_more : (xs : List Extent) (e : Extent) → ShareNone xs → met xs e ≡ None → ShareNone (xs ++ e ∷ [])
 apart_more xs e apart h = record {
   each = λ at. let sum = holders_append at xs (e ∷ []) in
       let before = apart.each at in

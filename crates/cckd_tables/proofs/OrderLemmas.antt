@@ -10,7 +10,7 @@ use Rattle.cckd_base.specs.declared.space.Extent.{Extent}
 use Rattle.cckd_base.specs.declared.space.Owner.TheVariants.{Nobody}
 use Rattle.cckd_base.specs.Survey.{placed_among, by_position, StandApart}
 use Rattle.cckd_tables.specs.Inside.{IsFormed, AreFormed}
-use Rattle.cckd_tables.specs.Kept.{holding, holders, AreApart, HaveBytes, stand_apart}
+use Rattle.cckd_tables.specs.Kept.{holding, holders, ShareNone, HaveBytes, stand_apart}
 use Rattle.cckd_tables.proofs.MeetLemmas.{hold_in, hold_before, hold_past, hold_once}
 
 -- each begins at or behind the one before
@@ -111,7 +111,7 @@ pub formed_moved : (n : ℕ) (xs ys : List Extent) → IsPermutation xs ys → A
 formed_moved n xs ys p f =
     recursion_from_All (IsFormed n) ys (All-permutation (IsFormed n) xs ys p (All-from_recursion (IsFormed n) xs f))
 
-pub apart_moved : (xs ys : List Extent) → IsPermutation xs ys → AreApart ys → AreApart xs
+pub apart_moved : (xs ys : List Extent) → IsPermutation xs ys → ShareNone ys → ShareNone xs
 apart_moved xs ys p a = record { each = λ b. let h = a.each b in let e = holders_moved xs ys p b in omega arith }
 
 -- putting a space at its place only moves it
@@ -213,12 +213,12 @@ bytes_moved : (xs ys : List Extent) → IsPermutation xs ys → HaveBytes xs →
 bytes_moved xs ys p h = covers_moved xs ys p (λ (e : Extent). 1 ≤ e.size) h
 
 -- spaces in order of position that are apart stand apart
-ascending_stand : (zs : List Extent) → HaveBytes zs → Ascend zs → AreApart zs → (b : Bool) → stand_apart 0 zs ≡ b → stand_apart 0 zs ≡ true
+ascending_stand : (zs : List Extent) → HaveBytes zs → Ascend zs → ShareNone zs → (b : Bool) → stand_apart 0 zs ≡ b → stand_apart 0 zs ≡ true
 ascending_stand zs f a apart true e = e
 ascending_stand zs f a apart false e =
     absurd (let s = shared_in_order zs f a e in let x = apart.each s.at in let y = s.two in omega arith)
 
-pub position_stands : (xs : List Extent) → HaveBytes xs → AreApart xs → stand_apart 0 (by_position xs) ≡ true
+pub position_stands : (xs : List Extent) → HaveBytes xs → ShareNone xs → stand_apart 0 (by_position xs) ≡ true
 position_stands xs f a =
     let p = position_moves xs in
     ascending_stand (by_position xs) (bytes_moved xs (by_position xs) p f) (position_ascends xs)
@@ -229,20 +229,20 @@ pub stand_is_order : (xs ys : List Extent) → HaveBytes xs → IsPermutation xs
 stand_is_order xs ys f p h =
     let q = position_moves xs in
     let yz : IsPermutation ys (by_position xs) = IsPermutation-trans ys xs (by_position xs) (IsPermutation-sym xs ys p) q in
-    let apart : AreApart ys = record { each = apart_in_order 0 ys h } in
+    let apart : ShareNone ys = record { each = apart_in_order 0 ys h } in
     one_order 0 0 (by_position xs) ys (bytes_moved xs (by_position xs) q f) (bytes_moved xs ys p f)
     (position_stands xs f (apart_moved xs ys p apart)) h
     (covers_moved (by_position xs) ys (IsPermutation-sym ys (by_position xs) yz)) (covers_moved ys (by_position xs) yz)
 
 -- the order in which spaces came makes no difference
-pub same_order : (xs ys : List Extent) → HaveBytes xs → AreApart xs → IsPermutation xs ys → by_position ys ≡ by_position xs
+pub same_order : (xs ys : List Extent) → HaveBytes xs → ShareNone xs → IsPermutation xs ys → by_position ys ≡ by_position xs
 same_order xs ys f a p =
     let q = IsPermutation-trans xs ys (by_position ys) p (position_moves ys) in
     stand_is_order xs (by_position ys) f q
     (position_stands ys (bytes_moved xs ys p f) (apart_moved ys xs (IsPermutation-sym xs ys p) a))
 
 -- what a sort leaves of spaces that are apart
-pub sorted_order : (xs ys : List Extent) → HaveBytes xs → AreApart xs → IsPermutation xs ys → IsNonDecreasingBy (λ (e : Extent). e.pos) ys → ys ≡ by_position xs
+pub sorted_order : (xs ys : List Extent) → HaveBytes xs → ShareNone xs → IsPermutation xs ys → IsNonDecreasingBy (λ (e : Extent). e.pos) ys → ys ≡ by_position xs
 sorted_order xs ys f a p s =
     stand_is_order xs ys f p
     (ascending_stand ys (bytes_moved xs ys p f) (ascend_from ys s) (apart_moved ys xs (IsPermutation-sym xs ys p) a) _ refl)

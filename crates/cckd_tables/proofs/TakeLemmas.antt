@@ -13,7 +13,7 @@ use Rattle.cckd_tables.specs.declared.progress.Progress.{Progress}
 use Rattle.cckd_tables.specs.declared.progress.Until.{Until}
 use Rattle.cckd_tables.specs.declared.progress.Until.TheVariants.{FirstMisfit}
 use Rattle.cckd_tables.specs.Inside.{TakesFront, IsFormed, AreFormed, IsUnderWay, Takes, TakesSome}
-use Rattle.cckd_tables.specs.Kept.{HaveBytes, AreApart}
+use Rattle.cckd_tables.specs.Kept.{HaveBytes, ShareNone}
 use Rattle.cckd_tables.proofs.MeetLemmas.{apart_more, met_by_position}
 use Rattle.cckd_tables.proofs.OrderLemmas.{same_order, all_between}
 
@@ -71,7 +71,7 @@ takes_met n a b first e u h s k m =
       misfits = m ∙ ap (λ (ms : List Misfit). a.misfits.items ++ ms) (sym (met_misfit a.spaces.items first e meets));
       under_way = record {
         formed = subst (λ v. AreFormed n v.items) (sym s) u.formed;
-        apart = subst (λ v. AreApart v.items) (sym s) u.apart;
+        apart = subst (λ v. ShareNone v.items) (sym s) u.apart;
         found = k ∙ u.found ∙ ap (λ v. by_position v.items) (sym s);
       };
     }
@@ -96,7 +96,7 @@ takes_unmet n a b e u f h s k m =
           ∙ ap (λ (ms : List Misfit). a.misfits.items ++ ms) (sym (unmet_misfit a.spaces.items e unmet));
       under_way = record {
         formed = subst (AreFormed n) (sym s) formed;
-        apart = subst AreApart (sym s) apart;
+        apart = subst ShareNone (sym s) apart;
         found = k ∙ ap (placed_among e) u.found
             ∙ same_order (a.spaces.items ++ e ∷ []) (e ∷ a.spaces.items) (have_bytes n (a.spaces.items ++ e ∷ []) formed) apart (IsPermutation-to_front a.spaces.items e)
             ∙ ap by_position (sym s);

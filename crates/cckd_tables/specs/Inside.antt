@@ -18,7 +18,7 @@ use Rattle.cckd_tables.specs.declared.progress.Until.TheVariants.{FirstMisfit}
 use Rattle.cckd_base.specs.declared.misfit.ScanFault.{ScanFault}
 use Rattle.cckd_base.specs.declared.misfit.ScanFault.TheVariants as fault
 use Rattle.cckd_tables.specs.Scan.{first_misfit}
-use Rattle.cckd_tables.specs.Kept.{AreApart}
+use Rattle.cckd_tables.specs.Kept.{ShareNone}
 
 -- it is in use from its first byte on, and ends inside the file
 pub record IsFormed (file_len : ℕ) (e : Extent) : Type 0 where
@@ -64,7 +64,7 @@ AreTableSpaces groups spaces = AllByRecursion (λ e. IsTableSpace groups e.size 
 -- the spaces that a survey keeps are formed and apart, and it finds them by position
 pub record IsUnderWay (file_len : ℕ) (s : Progress) : Type 0 where
   pub formed : AreFormed file_len s.spaces.items
-  pub apart : AreApart s.spaces.items
+  pub apart : ShareNone s.spaces.items
   pub found : s.kept ≡ by_position s.spaces.items
 
 -- a survey has taken these items

@@ -14,7 +14,7 @@ holders at [] = 0
 holders at (e ∷ es) = holding at e + holders at es
 
 -- no byte is in two of the spaces
-pub record AreApart (spaces : List Extent) : Type 0 where
+pub record ShareNone (spaces : List Extent) : Type 0 where
   pub each : (at : ℕ) → holders at spaces ≤ 1
 
 -- each of the spaces has a byte
@@ -38,7 +38,7 @@ AreKeyed late = AllByRecursion (λ p. p.0 ≡ p.1.pos) late
 -- a run in order, and spaces by their position before its end, all of them apart
 pub record KeepsOrder (run : List Extent) (late : List (ℕ × Extent)) : Type 0 where
   pub bytes : HaveBytes (run ++ values_of late)
-  pub apart : AreApart (run ++ values_of late)
+  pub apart : ShareNone (run ++ values_of late)
   pub run_ordered : stand_apart 0 run ≡ true
   pub late_ordered : stand_apart 0 (values_of late) ≡ true
   pub keyed : AreKeyed late

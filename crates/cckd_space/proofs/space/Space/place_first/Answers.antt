@@ -28,7 +28,7 @@ returns-then-self-need-clause-placed c = sym (ap (option_map (λ (p : Piece). al
 pub returns-then-self-need-clause-reserved : goal.returns-then-self-need-clause-reserved
 returns-then-self-need-clause-reserved c =
     let same = sym (replaced_none (has_room c.args.need) (reserved_in c.args.need) c.args.self.now.pieces (nowhere c)) in
-    record { now = same; sized = refl; limit = refl; spare = omega (arith, ap length same) }
+    record { made = same; sized = refl; limit = refl; spare = omega (arith, ap length same) }
 
 pub invariant_of-self : goal.invariant_of-self
 invariant_of-self c =

@@ -47,7 +47,7 @@ returns-then-not-self-clause-becomes c =
     let old = c.self.inside.pieces.pieces in
     let none = released_none old (laid_are_merged 0 old c.self.inside.size c.self.invariant.laid) (none_marked (counted is_pending old) c.self.inside.pending c.self.invariant.marked.some_pending c.if-not-self.true) in
     let same = subst (λ (l : List Piece). merged (map released l) ≡ l) (ap (λ (plan : Plan). plan.pieces) c.self.view_is) none in
-    record { now = sym same; sized = refl; limit = refl; spare = omega (arith, ap length same) }
+    record { made = sym same; sized = refl; limit = refl; spare = omega (arith, ap length same) }
 
 pub returns-clause-spent : goal.returns-clause-spent
 returns-clause-spent c =

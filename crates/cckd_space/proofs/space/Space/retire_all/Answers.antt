@@ -38,7 +38,7 @@ returns-then-not-self-clause-becomes c =
     let old = c.self.inside.pieces.pieces in
     let none = retired_none old (none_marked (counted is_leaving old) c.self.inside.leaving c.self.invariant.marked.some_leaving c.if-not-self.true) in
     let same = subst (λ (l : List Piece). map retired l ≡ l) (ap (λ (plan : Plan). plan.pieces) c.self.view_is) none in
-    record { now = sym same; sized = refl; limit = refl; spare = omega (arith, ap length same) }
+    record { made = sym same; sized = refl; limit = refl; spare = omega (arith, ap length same) }
 
 pub returns-clause-spent : goal.returns-clause-spent
 returns-clause-spent c =
