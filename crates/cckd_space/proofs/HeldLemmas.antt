@@ -17,7 +17,7 @@ held old was now ps slots v e a b =
     let p = ap (λ (h : Held). h.spare) v in
     let q = ap (λ (h : Held). length h.pieces) v in
     let n = ap length e in
-    record { made = e; spare = omega (arith, p, q, n, a, b) }
+    record { now = e; spare = omega (arith, p, q, n, a, b) }
 
 -- blocks that are as many as before, with room for as many pieces
 pub still_held : (bs now : List (List Piece)) (slots full c s rb rs c2 s2 rb2 rs2 : ℕ) → AreHeld bs slots full c s rb rs → AreFit full now → length (whole now) ≤ slots → c2 + s2 ≡ c + s → c2 + s2 ≤ min rb2 rs2
@@ -46,17 +46,17 @@ appended_held old one two three need size end place r a b c e p q =
     let ps = old.pieces in
     let at = used_end ps in
     let none : free_run at (min 0 size) ≡ [] = free_run_none at (min 0 size) (omega arith) in
-    let first : one.pieces ≡ trimmed ps = a.made ∙ (ap (λ (l : List Piece). trimmed ps ++ l) none ∙ append-nil (trimmed ps)) in
+    let first : one.pieces ≡ trimmed ps = a.now ∙ (ap (λ (l : List Piece). trimmed ps ++ l) none ∙ append-nil (trimmed ps)) in
     let here : place ≡ aligned_up at = p ∙ ap aligned_up e in
     let run : free_run end place ≡ free_run at (aligned_up at) = ap (λ (n : ℕ). free_run n place) e ∙ ap (free_run at) here in
-    let second : two.pieces ≡ trimmed ps ++ free_run at (aligned_up at) = b.made ∙ (ap (λ (l : List Piece). l ++ free_run end place) first ∙ ap (λ (l : List Piece). trimmed ps ++ l) run) in
+    let second : two.pieces ≡ trimmed ps ++ free_run at (aligned_up at) = b.now ∙ (ap (λ (l : List Piece). l ++ free_run end place) first ∙ ap (λ (l : List Piece). trimmed ps ++ l) run) in
     let last : r ≡ reserved_piece (aligned_up at) need = q ∙ ap (λ (n : ℕ). reserved_piece n need) here in
-    let third : three.pieces ≡ appended need ps = c.made
+    let third : three.pieces ≡ appended need ps = c.now
     ∙ (ap (λ (l : List Piece). l ++ r ∷ []) second
     ∙ (ap (λ (x : Piece). (trimmed ps ++ free_run at (aligned_up at)) ++ x ∷ []) last ∙ append_assoc (trimmed ps) (free_run at (aligned_up at)) (reserved_piece (aligned_up at) need ∷ []))) in
     record {
-      made = third;
-      spare = omega (arith, a.spare, b.spare, c.spare, ap length a.made, ap length b.made, ap length c.made, ap length third);
+      now = third;
+      spare = omega (arith, a.spare, b.spare, c.spare, ap length a.now, ap length b.now, ap length c.now, ap length third);
     }
 
 -- the plan of a file once its pieces were changed
@@ -64,7 +64,7 @@ pub becomes : (change : List Piece → List Piece) (old new : Held) (was : Plan)
     → Becomes was (record { pieces = new.pieces; size = now; limit = limit; spare = new.spare }) (change was.pieces) then
 becomes change old new was size limit now then v h e =
     let same = ap (λ (p : Plan). p.pieces) v in
-    let n = h.made ∙ ap change same in
+    let n = h.now ∙ ap change same in
     record {
       made = n;
       sized = e;
@@ -75,7 +75,7 @@ becomes change old new was size limit now then v h e =
 -- and where they were not
 pub unchanged : (old new : Held) (ps : List Piece) → Holds old new ps → ps ≡ old.pieces → new ≡ old
 unchanged old new ps h e =
-    let n : new.pieces ≡ old.pieces = h.made ∙ e in
+    let n : new.pieces ≡ old.pieces = h.now ∙ e in
     let s : new.spare ≡ old.spare = omega (arith, h.spare, ap length e) in
     ap (λ (l : List Piece). record { pieces = l; spare = new.spare }) n ∙ ap (λ (k : ℕ). record { pieces = old.pieces; spare = k }) s
 
