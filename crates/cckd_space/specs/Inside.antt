@@ -8,11 +8,13 @@ pub record IsMarked (pieces : List Piece) (leaving pending : Bool) : Type 0 wher
   pub some_leaving : leaving ≡ nat_lt 0 (counted is_leaving pieces)
   pub some_pending : pending ≡ nat_lt 0 (counted is_pending pieces)
 
--- the pieces cover the file, none offers more than a number, and the marks are true of its Leaving and Pending pieces
-pub record IsKept (pieces : List Piece) (size most : ℕ) (leaving pending : Bool) : Type 0 where
+-- The pieces cover the file, none offers more than a number, and the marks are true of its Leaving and Pending pieces. No
+-- more are said to be spare than there are.
+pub record IsKept (pieces : List Piece) (size most : ℕ) (leaving pending : Bool) (least spare : ℕ) : Type 0 where
   pub laid : IsLaid 0 pieces size
   pub offers : largest pieces ≤ most
   pub marked : IsMarked pieces leaving pending
+  pub few : least ≤ spare
 
 -- each piece begins before those behind it
 pub record IsInOrder (pieces : List Piece) : Type 0 where

@@ -121,6 +121,13 @@ impl Blocks {
         Pieces::new(self.blocks.as_slice())
     }
 
+    /// How many pieces more there is room for. The pieces are counted.
+    pub(crate) fn spare(&self) -> usize
+        ensures { result ≡ self.now.spare }
+    {
+        self.slots - count_in(self.blocks.as_slice())
+    }
+
     /// Makes room for at least so many pieces more.
     pub(crate) fn grow(&mut self, more: u32) -> Result<(), Memory>
         requires few { length self.old.pieces < 2 ^ 32 }

@@ -22,6 +22,8 @@ pub struct Space {
     // Whether there is a Leaving piece, and whether there is a Pending one.
     leaving: bool,
     pending: bool,
+    // So many pieces may still be added, if not more.
+    least: usize,
 }
 
 impl Model for Space {
@@ -32,7 +34,7 @@ impl Model for Space {
 
     ghost view = { λ s. record { pieces = s.pieces.pieces; size = s.size; limit = s.limit; spare = s.pieces.spare } };
 
-    ghost invariant = { λ s. IsKept s.pieces.pieces s.size s.most s.leaving s.pending };
+    ghost invariant = { λ s. IsKept s.pieces.pieces s.size s.most s.leaving s.pending s.least s.pieces.spare };
 }
 
 impl Space {
@@ -79,6 +81,7 @@ impl Space {
             most: size as u64,
             leaving: false,
             pending: false,
+            least: 0,
         })
     }
 
@@ -91,6 +94,18 @@ impl Space {
         ensures sound { IsSound self.new }
     {
         self.pieces.grow(more)
+    }
+
+    /// Whether so many pieces may still be added without taking memory. The pieces are counted where what is known since
+    /// they last were doesn't say it.
+    pub fn has_spare(&mut self, wanted: usize) -> bool
+        ensures answer { IsTrue result ↔ (wanted ≤ self.old.spare) }
+        ensures same { self.new ≡ self.old }
+    {
+        if self.least < wanted {
+            self.least = self.pieces.spare();
+        }
+        wanted <= self.least
     }
 
     /// Reserves `need` bytes at the first fit, or else at the end of the file.
@@ -135,6 +150,7 @@ impl Space {
         if self.most < need as u64 {
             return None;
         }
+        self.least = self.least.saturating_sub(2);
         self.pieces.reserve(need)
     }
 
@@ -156,6 +172,7 @@ impl Space {
         let end = self.pieces.free_end(self.size);
         let place = align(end);
         if place + need as u64 <= self.limit as u64 {
+            self.least = self.least.saturating_sub(2);
             self.pieces.reserve_end(end, self.size, need);
             self.most = need as u64 - 1;
             self.size = place as u32 + need;
@@ -186,6 +203,7 @@ impl Space {
         if self.most < need as u64 {
             return None;
         }
+        self.least = self.least.saturating_sub(2);
         self.pieces.reserve_below(need, before)
     }
 

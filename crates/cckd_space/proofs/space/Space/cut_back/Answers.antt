@@ -27,6 +27,7 @@ invariant_of-self c =
       laid = subst (λ (l : List Piece). IsLaid 0 l c.max-self-inside.result) (sym now) (subst (λ (n : ℕ). IsLaid 0 (cut c.args.len size old) n) end (laid_cut c.args.len old size c.self.invariant.laid));
       offers = (let less = largest_cut c.args.len old size c.self.invariant.laid in omega (arith, less, ap largest now, c.self.invariant.offers));
       marked = subst (λ (l : List Piece). IsMarked l c.self.inside.leaving c.self.inside.pending) (sym now) (marked_cut c.args.len size old c.self.inside.leaving c.self.inside.pending c.self.invariant.marked);
+      few = (let n = cut_fewer c.args.len old size (laid_ends old size c.self.invariant.laid) in omega (arith, n, c.cut_end.ensures.spare, c.self.invariant.few));
     }
 
 pub returns-clause-becomes : goal.returns-clause-becomes

@@ -33,6 +33,7 @@ invariant_of-self c =
       laid = subst (λ (l : List Piece). IsLaid 0 l size) (sym now) (laid_freed (is_reserved_at c.args.pos) old size c.self.invariant.laid);
       offers = omega (arith, c.give_back-offered.ensures.offers, c.max-self-inside.ensures, c.self.invariant.offers);
       marked = subst (λ (l : List Piece). IsMarked l c.self.inside.leaving c.self.inside.pending) (sym now) (marked_merged (replaced (is_reserved_at c.args.pos) (λ p. freed p ∷ []) old) c.self.inside.leaving c.self.inside.pending (marked_swapped c.args.pos freed (λ p. refl) (λ p. refl) old c.self.inside.leaving c.self.inside.pending c.self.invariant.marked));
+      few = (let n = swapped_len (is_reserved_at c.args.pos) freed old in let m = merged_fewer (replaced (is_reserved_at c.args.pos) (λ p. freed p ∷ []) old) in omega (arith, n, m, c.give_back-offered.ensures.holds.spare, c.self.invariant.few));
     }
 
 pub returns-clause-becomes : goal.returns-clause-becomes

@@ -15,6 +15,7 @@ invariant_of-self c =
       laid = subst (λ (l : List Piece). IsLaid 0 l c.self.inside.size) now c.self.invariant.laid;
       offers = subst (λ (l : List Piece). largest l ≤ c.self.inside.most) now c.self.invariant.offers;
       marked = subst (λ (l : List Piece). IsMarked l c.self.inside.leaving c.self.inside.pending) now c.self.invariant.marked;
+      few = omega (arith, c.grow.ensures.kept, c.self.invariant.few);
     }
 
 pub returns-clause-sound : goal.returns-clause-sound

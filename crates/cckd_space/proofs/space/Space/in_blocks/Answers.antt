@@ -1,4 +1,4 @@
-use Rattle.std.proofs.Common.{List, false, sym, subst}
+use Rattle.std.proofs.Common.{List, false, sym, subst, arith}
 use Rattle.cckd_space.specs.declared.piece.Piece.{Piece}
 use Rattle.cckd_space.specs.Pieces.{IsLaid}
 use Rattle.cckd_space.specs.Inside.{IsMarked}
@@ -15,6 +15,7 @@ invariant_of-result c =
       laid = laid;
       offers = largest_fits 0 c.in_ok-pieces.pieces.pieces c.args.size laid;
       marked = subst (λ (l : List Piece). IsMarked l false false) (sym c.in_ok-pieces.ensures.pieces) (marked_used c.args.used.now c.args.size);
+      few = omega arith;
     }
 
 pub returns-clause-sound : goal.returns-clause-sound

@@ -26,6 +26,7 @@ invariant_of-self c =
       laid = subst (λ (l : List Piece). IsLaid 0 l size) (sym now) (laid_left test old size c.self.invariant.laid);
       offers = (let less = largest_swapped test left (λ p. refl) old in omega (arith, less, ap largest now, c.self.invariant.offers));
       marked = subst (λ (l : List Piece). IsMarked l true c.self.inside.pending) (sym now) (marked_left c.args.pos old c.self.inside.leaving c.self.inside.pending there c.self.invariant.marked);
+      few = (let n = swapped_len test left old in omega (arith, n, c.leave.ensures.spare, c.self.invariant.few));
     }
 
 pub returns-clause-becomes : goal.returns-clause-becomes

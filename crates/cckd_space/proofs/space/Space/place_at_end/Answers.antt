@@ -30,6 +30,7 @@ invariant_of-self c =
           (laid_appended c.args.need old c.self.inside.size c.requires.need c.self.invariant.laid));
       offers = omega (arith, less, ap largest now, small, c.requires.none);
       marked = subst (λ (l : List Piece). IsMarked l c.self.inside.leaving c.self.inside.pending) (sym now) (marked_appended c.args.need old c.self.inside.leaving c.self.inside.pending c.self.invariant.marked);
+      few = (let n = appended_few c.args.need old in omega (arith, n, c.reserve_end.ensures.spare, c.saturating_sub-self-inside.ensures, c.self.invariant.few));
     }
 
 pub returns-then-place-need-clause-reserved : goal.returns-then-place-need-clause-reserved

@@ -41,6 +41,7 @@ invariant_of-self c =
       laid = subst (λ (l : List Piece). IsLaid 0 l size) (sym now) (laid_reserved_in test c.args.need (omega (arith, c.requires.need)) (λ p e. e) old size c.self.invariant.laid);
       offers = (let less = largest_reserved test c.args.need (λ p e. e) old in omega (arith, less, ap largest now, c.self.invariant.offers));
       marked = subst (λ (l : List Piece). IsMarked l c.self.inside.leaving c.self.inside.pending) (sym now) (marked_filled test c.args.need (λ p e. e) old c.self.inside.leaving c.self.inside.pending c.self.invariant.marked);
+      few = (let n = replaced_few test c.args.need old in omega (arith, n, c.reserve.ensures.holds.spare, c.saturating_sub-self-inside.ensures, c.self.invariant.few));
     }
 
 pub returns-clause-reserved : goal.returns-clause-reserved

@@ -29,6 +29,7 @@ invariant_of-self c =
       laid = subst (λ (l : List Piece). IsLaid 0 l size) (sym now) (laid_released old size c.self.invariant.laid);
       offers = c.release-self-inside.ensures.offers;
       marked = subst (λ (l : List Piece). IsMarked l c.self.inside.leaving false) (sym now) (marked_released old c.self.inside.leaving c.self.inside.pending c.self.invariant.marked);
+      few = (let n = length-map old released in let m = merged_fewer (map released old) in omega (arith, n, m, c.release-self-inside.ensures.holds.spare, c.self.invariant.few));
     }
 
 pub returns-clause-becomes : goal.returns-clause-becomes

@@ -20,6 +20,7 @@ invariant_of-self c =
       laid = subst (λ (l : List Piece). IsLaid 0 l size) (sym now) (laid_retired old size c.self.invariant.laid);
       offers = (let less = largest_retired old in omega (arith, less, ap largest now, c.self.invariant.offers));
       marked = subst (λ (l : List Piece). IsMarked l false true) (sym now) (marked_retired old c.self.inside.pending (subst (λ (b : Bool). IsMarked old b c.self.inside.pending) c.if-not-self.false c.self.invariant.marked));
+      few = (let n = length-map old retired in omega (arith, n, c.retire.ensures.spare, c.self.invariant.few));
     }
 
 pub returns-clause-becomes : goal.returns-clause-becomes

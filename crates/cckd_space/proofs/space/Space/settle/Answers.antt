@@ -28,6 +28,7 @@ invariant_of-self c =
       laid = subst (λ (l : List Piece). IsLaid 0 l size) (sym now) (laid_settled test c.args.len c.args.owner old size fits c.self.invariant.laid);
       offers = (let less = largest_swapped test (settled c.args.len c.args.owner) (λ p. refl) old in omega (arith, less, ap largest now, c.self.invariant.offers));
       marked = subst (λ (l : List Piece). IsMarked l c.self.inside.leaving c.self.inside.pending) (sym now) (marked_swapped c.args.pos (settled c.args.len c.args.owner) (λ p. refl) (λ p. refl) old c.self.inside.leaving c.self.inside.pending c.self.invariant.marked);
+      few = (let n = swapped_len test (settled c.args.len c.args.owner) old in omega (arith, n, c.settle.ensures.spare, c.self.invariant.few));
     }
 
 pub returns-clause-becomes : goal.returns-clause-becomes

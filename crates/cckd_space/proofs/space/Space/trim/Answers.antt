@@ -28,6 +28,7 @@ invariant_of-self c =
       laid = subst (λ (l : List Piece). IsLaid 0 l c.free_end-end.result) (sym now) (subst (λ (n : ℕ). IsLaid 0 (cut 0 size old) n) end (laid_cut 0 old size c.self.invariant.laid));
       offers = (let less = largest_cut 0 old size c.self.invariant.laid in omega (arith, less, ap largest now, c.self.invariant.offers));
       marked = subst (λ (l : List Piece). IsMarked l c.self.inside.leaving c.self.inside.pending) (sym now) (marked_cut 0 size old c.self.inside.leaving c.self.inside.pending c.self.invariant.marked);
+      few = (let n = cut_fewer 0 old size (laid_ends old size c.self.invariant.laid) in omega (arith, n, c.cut_end.ensures.spare, c.self.invariant.few));
     }
 
 pub returns-clause-dropped : goal.returns-clause-dropped
