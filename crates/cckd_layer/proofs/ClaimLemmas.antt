@@ -13,7 +13,7 @@ use Rattle.cckd_base.specs.Entry.{word_at, entry_at, bytes_by_entry}
 use Rattle.cckd_base.specs.Image.{IsPlace}
 use Rattle.cckd_base.proofs.PlaceLemmas.{place_or_not}
 use Rattle.cckd_space.specs.Plan.{Plan, Becomes, IsSound, place_of, with_reserved, size_with, room}
-use Rattle.cckd_tables.specs.Staging.{Stages, entry_for, place_for}
+use Rattle.cckd_tables.specs.Staging.{Stages, IsStaged, entry_for, place_for}
 use Rattle.cckd_tables.specs.Stages.{with_entry, with_word}
 use Rattle.cckd_tables.specs.Tables.{TableView, AreOf}
 use Rattle.cckd_tables.specs.Looking.{with_stages, word_of}
@@ -117,7 +117,7 @@ claim_map claims null s plan need w (Ok pos) some place becomes full within soun
 
 -- an entry is staged for a track, whose old space goes
 pub track_agrees : (claims rest : List Extent) (null : NullBytes) (s : LayerState) (plan : Plan) (t : ℕ) (e : L2Entry) (pos len : ℕ) (w : Seen) → FreesOld (entry_for t s.tables.stages.entries) pos len s.plan plan → IsSound plan
-    → CanStage claims rest s t e w → pos ≡ (entry_now s w t).pos → len ≡ length (file_of w.world s.slot)
+    → CanStage claims rest s t e w → pos ≡ (entry_now s w t).pos → (IsStaged t s.tables.stages → len ≡ length (file_of w.world s.slot))
     → StoresIn rest null s (record s { tables = with_stages s.tables (with_entry (record { track = t; entry = e }) s.tables.stages); plan = plan; hardened = false }) t (bytes_by_entry null s.tables.layout (file_of w.world s.slot) t e) w w
 track_agrees claims rest null s plan t e pos len w frees sound can at long = record {
   agrees = record {
@@ -156,7 +156,7 @@ track_agrees claims rest null s plan t e pos len w frees sound can at long = rec
         let covers = can.agrees.stands.now.spans.covers in
         elim (place_or_none pos) [
           | inl place ↦ stands_again v n rest plan s.slot w.world t e o again (subst IsPlace same place) st can.can takes
-              (subst (λ (m : ℕ). MayGiveBack o.pos m s.plan plan) long (subst (λ (p : ℕ). MayGiveBack p len s.plan plan) same (f.given refl place))) sound.laid (omega (arith, area, covers)) can.agrees.stands
+              (subst (λ (m : ℕ). MayGiveBack o.pos m s.plan plan) (long (subst (λ (x : Option L2Entry). IsSome x) (sym again) refl)) (subst (λ (p : ℕ). MayGiveBack p len s.plan plan) same (f.given refl place))) sound.laid (omega (arith, area, covers)) can.agrees.stands
           | inr none ↦ subst (λ (p : Plan). Stands (record v { stages = n; claims = rest; plan = p }) s.slot w.world) (sym (f.kept refl none))
               (stands_again_none v n rest s.slot w.world t e o again (λ place. none (subst IsPlace (sym same) place)) st can.can takes can.agrees.stands)
         ]
@@ -203,7 +203,7 @@ unclaim_agrees claims null s plan pos n len w may sound long a =
     record {
       agrees = record {
         stands = stands_by v s.tables.stages claims plan s.slot w.world
-            (keeps_twice s.plan.pieces mid plan.pieces (held_given pos s.plan.pieces) (subst (KeepsHeld mid) (sym k.0.now) (held_cut (length file) s.plan.size mid))) k.1 h;
+            (keeps_twice s.plan.pieces mid plan.pieces (held_given pos s.plan.pieces) (subst (KeepsHeld mid) (sym k.0.made) (held_cut (length file) s.plan.size mid))) k.1 h;
         are = a.are;
         fits = a.fits;
         empty = a.empty;

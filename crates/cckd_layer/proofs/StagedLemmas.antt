@@ -255,7 +255,7 @@ stands_again v n rest new slot w t e o again place st can takes may laid full h 
     let k = given_accounts (IsInUse v.layout v.stages (file_of w slot)) (IsReplaced v.layout v.stages (file_of w slot)) v.stages v.claims v.plan new (length (file_of w slot)) t o again place c.spans.laid may c.accounts in
     let mid = given_back o.pos v.plan.pieces in
     stands_by v n rest new slot w
-    (keeps_twice v.plan.pieces mid new.pieces (held_given o.pos v.plan.pieces) (subst (KeepsHeld mid) (sym k.0.now) (held_cut (length (file_of w slot)) v.plan.size mid)))
+    (keeps_twice v.plan.pieces mid new.pieces (held_given o.pos v.plan.pieces) (subst (KeepsHeld mid) (sym k.0.made) (held_cut (length (file_of w slot)) v.plan.size mid)))
     (current_again v.layout v.stages n v.claims rest v.plan new (file_of w slot) t e o again place st can takes may laid full c) h
 
 pub stands_word : (v : LayerView) (n : Stages) (rest : List Extent) (new : Plan) (slot : ℕ) (w : World) (g pos : ℕ) → v.claims ≡ claim pos 2048 ∷ rest → place_for g v.stages.words ≡ None → StagesWord g pos v.stages n

@@ -1,14 +1,14 @@
 -- What writing makes of a layer, and what a stop leaves of it.
-use Rattle.std.specs.Prelude.{ℕ, ◌≡◌, ◌⊎◌, ◌<◌, Bool, true, false, List, [], ◌∷◌, map, Option, Some, None, IsNone, IsSome, Result, Err}
+use Rattle.std.specs.Prelude.{ℕ, ◌≡◌, ◌⊎◌, ◌<◌, Bool, true, false, List, [], ◌∷◌, ◌++◌, map, Option, Some, None, IsNone, IsSome, Result, Err}
 use Rattle.cckd_shelf.specs.declared.fault.Faults.{Faults}
 use Rattle.cckd_shelf.specs.declared.fault.Kind.TheVariants.{Reads, Writes, Syncs}
 use Rattle.cckd_shelf.specs.Faults.{Raises}
 use Rattle.cckd_shelf.specs.Seen.{Seen, Tells}
 use Rattle.cckd_shelf.specs.World.{World, file_of}
 use Rattle.cckd_shelf.specs.Outcomes.{EachOutcome, AtEach}
+use Rattle.cckd_shelf.specs.Frame.{OnlyIn}
 use Rattle.cckd_base.specs.declared.layer_fault.LayerFault.{LayerFault}
 use Rattle.cckd_base.specs.declared.layer_fault.LayerFault.TheVariants as fault
-use Rattle.std.specs.Option.{is_some}
 use Rattle.cckd_base.specs.declared.space.Full.{Full}
 use Rattle.cckd_base.specs.declared.space.Extent.{Extent}
 use Rattle.cckd_base.specs.declared.entry.L2Entry.{L2Entry}
@@ -29,6 +29,7 @@ use Rattle.cckd_layer.specs.Acts.{committed_pieces, left_at, MayGiveBack}
 use Rattle.cckd_base.specs.Image.{IsPlace}
 use Rattle.cckd_layer.specs.Current.{claim, CanBeEntry}
 use Rattle.cckd_layer.specs.Puts.{IsReserved, HasNoRoom}
+use Rattle.cckd_layer.specs.declared.claiming.Places.{Places}
 use Rattle.cckd_layer.specs.Marks.{FitsLayout}
 use Rattle.cckd_layer.specs.Chain.{opened_header}
 
@@ -140,6 +141,19 @@ pub record IsSameLayer (old new : LayerState) : Type 0 where
   pub layout : new.tables.layout ≡ old.tables.layout
   pub limit : new.plan.limit ≡ old.plan.limit
 
+-- the same slot, layout and limit
+pub record IsSameFile (old new : LayerState) : Type 0 where
+  pub slot : new.slot ≡ old.slot
+  pub layout : new.tables.layout ≡ old.tables.layout
+  pub limit : new.plan.limit ≡ old.plan.limit
+
+-- An act of a layer that has these claims: it is of the same file, and does nothing to another one. At each operation a
+-- stop leaves what was once hardened or was written since, where it left that before.
+pub record IsAct (claims : List Extent) (null : NullBytes) (s next : LayerState) (old new : Seen) : Type 0 where
+  pub same : IsSameFile s next
+  pub stopped : StopsWithinWith claims null s old new
+  pub others : OnlyIn s.slot old new
+
 -- something was written that isn't on the disk for good
 abbrev pub IsPut : LayerState → LayerState → Type 0
 IsPut old new = new ≡ record old { hardened = false }
@@ -196,18 +210,31 @@ pub record FreesOld (staged : Option L2Entry) (pos len : ℕ) (old new : Plan) :
   pub given : IsSome staged → IsPlace pos → MayGiveBack pos len old new
   pub kept : IsSome staged → (IsPlace pos → ⊥) → new ≡ old
 
--- the places of a write: that of the group's new table, where it gets one, and that of the track's bytes
-abbrev pub table_claims : Option ℕ → List Extent
-table_claims (Some pos) = claim pos 2048 ∷ []
-table_claims None = []
+-- the claim of a place for so many bytes, where a place was wanted and given
+abbrev pub claim_of : Option ℕ → Option ℕ → List Extent
+claim_of (Some need) (Some pos) = claim pos need ∷ []
+claim_of need place = []
 
--- a new table has this place, or none was wanted
-abbrev pub HoldsTable : Option ℕ → Plan → Plan → Type 0
-HoldsTable (Some pos) old new = IsReserved 2048 old new
-HoldsTable None old new = new ≡ old
+-- the claims of a write: the place of the track's bytes, and that of the group's new table
+abbrev pub claims_of : Option ℕ → Places → List Extent
+claims_of need places = claim_of need places.track ++ claim_of (Some 2048) places.table
 
--- a new table, where one is wanted, has no place, or so many bytes have none while that is held
-abbrev pub HaveNoPlaces : Bool → ℕ → Plan → Full → Type 0
+-- what a new table wants, where a group wants one
+abbrev pub table_need : Bool → Option ℕ
+table_need true = Some 2048
+table_need false = None
+
+-- a place was found for what was wanted, if something was
+abbrev pub IsGranted : Option ℕ → Plan → Plan → Type 0
+IsGranted (Some need) old new = IsReserved need old new
+IsGranted None old new = new ≡ old
+
+-- none was found for what was wanted
+abbrev pub IsDenied : Option ℕ → Plan → Full → Type 0
+IsDenied (Some need) plan full = HasNoRoom need plan full
+IsDenied None plan full = ⊥
+
+-- what a new table wants has no place, or what the track wants has none while the table's is held
+abbrev pub HaveNoPlaces : Bool → Option ℕ → Plan → Full → Type 0
 HaveNoPlaces wanted need plan full =
-    ((wanted ≡ true) × HasNoRoom 2048 plan full)
-    ⊎ ((table : Option ℕ) × (held : Plan) × (is_some table ≡ wanted) × HoldsTable table plan held × HasNoRoom need held full)
+    IsDenied (table_need wanted) plan full ⊎ ((held : Plan) × IsGranted (table_need wanted) plan held × IsDenied need held full)

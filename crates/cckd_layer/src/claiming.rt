@@ -1,5 +1,5 @@
 //! Places that are claimed for what is to be written, and new tables that are staged.
-ghost use Rattle.std.specs.Prelude.{◌≡◌, ◌⊎◌, ◌+◌, ◌<◌, ◌≤◌, ◌/◌, ◌%◌, [], ◌∷◌, ℕ, List, length, None, IfOk, OnOk, IfErr, OnErr, IsErr, true};
+ghost use Rattle.std.specs.Prelude.{◌≡◌, ◌⊎◌, ◌+◌, ◌<◌, ◌≤◌, ◌/◌, ◌%◌, [], ◌∷◌, ◌++◌, ℕ, List, length, None, Some, IsSome, IfSome, IfOk, OnOk, IfErr, OnErr, true};
 ghost use Rattle.std.specs.Option.{is_some};
 ghost use Rattle.cckd_shelf.specs.Seen.{Seen};
 ghost use Rattle.cckd_base.specs.declared.space.Extent.{Extent as Space_of};
@@ -14,7 +14,7 @@ ghost use Rattle.cckd_tables.specs.Looking.{HasAlignedTable};
 ghost use Rattle.cckd_layer.specs.Acts.{MayGiveBack};
 ghost use Rattle.cckd_layer.specs.Current.{claim};
 ghost use Rattle.cckd_layer.specs.Puts.{IsReserved, HasNoRoom};
-ghost use Rattle.cckd_layer.specs.Writes.{KeepsMapWith, CanStage, StoresIn, FreesOld, entry_now, HoldsTable, HaveNoPlaces, table_claims, with_plan, with_table, with_track};
+ghost use Rattle.cckd_layer.specs.Writes.{KeepsMapWith, CanStage, StoresIn, FreesOld, entry_now, claim_of, table_need, claims_of, IsGranted, IsDenied, HaveNoPlaces, with_plan, with_table, with_track};
 
 use crate::layer::Layer;
 use crate::staging::{give_place_back, leave_place};
@@ -26,8 +26,8 @@ use cckd_space::Space;
 pub(crate) struct Places {
     /// That of the group's new table, where it gets one.
     pub(crate) table: Option<u32>,
-    /// That of the track's bytes.
-    pub(crate) track: u32,
+    /// That of the track's bytes, where any are stored.
+    pub(crate) track: Option<u32>,
 }
 
 /// Lets the space at the position of a track's entry go: that of a staged one is given back, and any other leaves.
@@ -91,14 +91,15 @@ impl<U: Unit> Layer<U> {
         self.hardened = false;
     }
 
-    /// Stages an entry for a track, which had one at this position. The file is `len` bytes long.
+    /// Stages an entry for a track, which had one at this position. The file is `len` bytes long, which isn't asked where
+    /// no entry was staged for the track.
     pub(crate) fn stage_track(&mut self, t: Track, pos: u32, entry: L2Entry, len: u32)
         requires track { t.0 < track_count self.old.tables.layout.geo }
         requires free { IsStaged t.0 self.old.tables.stages ⊎ (0 < free_count self.old.tables.stages) }
         requires table { HasAlignedTable self.old.tables (t.0 / 256) }
         ensures staged { self.new ≡ with_track t.0 entry self.old self.new.plan }
         ensures map { (claims rest : List Space_of) (w : Seen) → CanStage claims rest self.old t.0 entry w
-            → pos ≡ (entry_now self.old w t.0).pos → len ≡ length (file_of w.world self.old.slot)
+            → pos ≡ (entry_now self.old w t.0).pos → (IsStaged t.0 self.old.tables.stages → len ≡ length (file_of w.world self.old.slot))
             → StoresIn rest U.null_bytes self.old self.new t.0 (bytes_by_entry U.null_bytes self.old.tables.layout (file_of w.world self.old.slot) t.0 entry) w w }
         ensures spent { self.old.plan.spare ≤ self.new.plan.spare }
     {
@@ -112,11 +113,10 @@ impl<U: Unit> Layer<U> {
     fn claim_table(&mut self, wanted: bool) -> Result<Option<u32>, Full>
         requires spare { 2 ≤ self.old.plan.spare }
         ensures rest { self.new ≡ with_plan self.old self.new.plan }
-        ensures map { (w : Seen) → IfOk result (λ table. KeepsMapWith [] (table_claims table) U.null_bytes self.old self.new w w) }
-        ensures wanted { IfOk result (λ table. is_some table ≡ wanted) }
-        ensures held { IfOk result (λ table. HoldsTable table self.old.plan self.new.plan) }
-        ensures asked { IsErr result → wanted ≡ true }
-        ensures full { IfErr result (HasNoRoom 2048 self.old.plan) }
+        ensures map { (w : Seen) → IfOk result (λ place. KeepsMapWith [] (claim_of (Some 2048) place) U.null_bytes self.old self.new w w) }
+        ensures wanted { IfOk result (λ place. is_some place ≡ wanted) }
+        ensures granted { OnOk result (IsGranted (table_need wanted) self.old.plan self.new.plan) }
+        ensures denied { IfErr result (IsDenied (table_need wanted) self.old.plan) }
         ensures same { OnErr result (self.new ≡ self.old) }
         ensures spent { self.old.plan.spare ≤ self.new.plan.spare + 2 }
     {
@@ -129,39 +129,62 @@ impl<U: Unit> Layer<U> {
         }
     }
 
+    /// Claims a place for the bytes of a track, where any are stored.
+    fn claim_track(&mut self, need: Option<u32>) -> Result<Option<u32>, Full>
+        requires need { IfSome need IsNeed }
+        requires spare { 2 ≤ self.old.plan.spare }
+        ensures rest { self.new ≡ with_plan self.old self.new.plan }
+        ensures map { (claims : List Space_of) (w : Seen) → IfOk result (λ place. KeepsMapWith claims (claim_of need place ++ claims) U.null_bytes self.old self.new w w) }
+        ensures wanted { IfOk result (λ place. is_some place ≡ is_some need) }
+        ensures granted { OnOk result (IsGranted need self.old.plan self.new.plan) }
+        ensures denied { IfErr result (IsDenied need self.old.plan) }
+        ensures same { OnErr result (self.new ≡ self.old) }
+    {
+        let Some(need) = need else {
+            return Ok(None);
+        };
+        match self.claim_place(need) {
+            Ok(pos) => Ok(Some(pos)),
+            Err(full) => Err(full),
+        }
+    }
+
     /// Gives the place of a new table back, where there is one. The file is `len` bytes long.
     fn unclaim_table(&mut self, table: Option<u32>, len: u32)
         ensures rest { self.new ≡ with_plan self.old self.new.plan }
-        ensures map { (w : Seen) → len ≡ length (file_of w.world self.old.slot) → KeepsMapWith (table_claims table) [] U.null_bytes self.old self.new w w }
-        ensures spent { self.old.plan.spare ≤ self.new.plan.spare }
+        ensures map { (w : Seen) → (IsSome table → len ≡ length (file_of w.world self.old.slot))
+            → KeepsMapWith (claim_of (Some 2048) table) [] U.null_bytes self.old self.new w w }
     {
         if let Some(pos) = table {
             self.unclaim(pos, len);
         }
     }
 
-    /// Claims the places of a write of `need` bytes, all or none. The file is `len` bytes long.
+    /// Claims the places of a write, all or none: that of `need` bytes, and that of a new table where one is wanted. The
+    /// file is `len` bytes long, which isn't asked where no table is wanted.
     pub(crate) fn claim_places(
         &mut self,
-        need: u32,
-        with_table: bool,
+        need: Option<u32>,
+        wanted: bool,
         len: u32,
     ) -> Result<Places, Full>
-        requires need { IsNeed need }
+        requires need { IfSome need IsNeed }
         requires spare { 4 ≤ self.old.plan.spare }
         ensures rest { self.new ≡ with_plan self.old self.new.plan }
-        ensures wanted { IfOk result (λ places. is_some places.table ≡ with_table) }
-        ensures map { (w : Seen) → IfOk result (λ places. KeepsMapWith [] (claim places.track need ∷ table_claims places.table) U.null_bytes self.old self.new w w) }
+        ensures table { IfOk result (λ places. is_some places.table ≡ wanted) }
+        ensures track { IfOk result (λ places. is_some places.track ≡ is_some need) }
+        ensures map { (w : Seen) → IfOk result (λ places. KeepsMapWith [] (claims_of need places) U.null_bytes self.old self.new w w) }
 
         // Where one has no place, the layer agrees with its file as before.
-        ensures full { IfErr result (HaveNoPlaces with_table need self.old.plan) }
-        ensures kept { (w : Seen) → len ≡ length (file_of w.world self.old.slot) → OnErr result (KeepsMapWith [] [] U.null_bytes self.old self.new w w) }
+        ensures full { IfErr result (HaveNoPlaces wanted need self.old.plan) }
+        ensures kept { (w : Seen) → (wanted ≡ true → len ≡ length (file_of w.world self.old.slot))
+            → OnErr result (KeepsMapWith [] [] U.null_bytes self.old self.new w w) }
     {
-        let table = match self.claim_table(with_table) {
+        let table = match self.claim_table(wanted) {
             Ok(table) => table,
             Err(full) => return Err(full),
         };
-        match self.claim_place(need) {
+        match self.claim_track(need) {
             Ok(track) => Ok(Places { table, track }),
             Err(full) => {
                 self.unclaim_table(table, len);
