@@ -19,6 +19,7 @@ pub mod NamedLemmas
 pub mod NearLemmas
 pub mod OpenLemmas
 pub mod PieceLemmas
+pub mod PrepareLemmas
 pub mod PutLemmas
 pub mod ReadLemmas
 pub mod RemarkLemmas

@@ -11,3 +11,4 @@ pub mod Closed
 pub mod Reads
 pub mod Mounted
 pub mod Writes
+pub mod Preparing

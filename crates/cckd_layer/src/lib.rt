@@ -16,6 +16,7 @@ mod marking;
 mod mounting;
 mod opening;
 mod placing;
+mod preparing;
 mod reading;
 mod settling;
 mod staging;

@@ -1,0 +1,142 @@
+//! What a write needs before it changes anything: room among what is staged, the entry of its track, and places.
+ghost use Rattle.std.specs.Prelude.{◌≡◌, ◌⊎◌, ◌↔◌, ◌<◌, ◌≤◌, ◌/◌, ◌%◌, ◌^◌, [], List, length, IsTrue, IsSome, IfSome, IsOk, IfOk, OnOk, IfErr, OnErr, Err, true, false};
+ghost use Rattle.std.specs.Option.{is_some};
+ghost use Rattle.cckd_shelf.specs.Seen.{Seen, seen, Tells, Stays};
+ghost use Rattle.cckd_shelf.specs.World.{World, IsSure, file_of};
+ghost use Rattle.cckd_base.specs.declared.space.Extent.{Extent as Space_of};
+ghost use Rattle.cckd_base.specs.Geometry.{track_count};
+ghost use Rattle.cckd_base.specs.Image.{IsPlace};
+ghost use Rattle.cckd_space.specs.Plan.{IsNeed};
+ghost use Rattle.cckd_tables.specs.Stages.{free_count};
+ghost use Rattle.cckd_tables.specs.Looking.{HasAlignedTable, with_cached};
+ghost use Rattle.cckd_layer.specs.Mounted.{CanRead, with_tables};
+ghost use Rattle.cckd_layer.specs.Reads.{OfFile, OnlyReads, LooksUp, IsAtHand};
+ghost use Rattle.cckd_layer.specs.Writes.{Agrees, AgreesWith, AgreesIn, KeepsMap, KeepsMapWith, IsAct, CountsLayer, HaveNoPlaces, entry_now, claims_of, is_broken_by, with_plan};
+ghost use Rattle.cckd_layer.specs.Preparing.{HasNoneToFree, IsRoom, SuitsFile, IsDenial, IsDeniedFor, IsNoRoomIn};
+
+use crate::claiming::Places;
+use crate::hardening::fault_of;
+use crate::layer::Layer;
+use crate::reading::entry_of;
+use cckd_base::{Full, GROUP_TRACKS, L2Entry, LayerFault, SEE_PARENT, Track, Unit};
+use cckd_shelf::{Slot, Stage};
+
+/// How many pieces the places of a write may add.
+const PLACED: usize = 4;
+
+/// What a write is given.
+#[derive(Clone, Copy)]
+pub(crate) struct Room {
+    pub(crate) places: Places,
+    /// How long the file is, where a place may be given back.
+    pub(crate) len: u32,
+}
+
+/// The length of a slot's file, which is below 4 GiB, where a table is wanted or an entry is staged, and else 0.
+fn len_if<T: Stage>(
+    stage: &mut T,
+    slot: Slot,
+    wanted: bool,
+    staged: bool,
+) -> Result<u32, LayerFault>
+    ensures len { OfFile slot (λ file. (wanted ≡ true) ⊎ (staged ≡ true) → length file < 2 ^ 32 → IfOk result (λ n. n ≡ length file)) (seen T.Shows stage.old) }
+    ensures refusal { IfErr result (λ why. why ≡ LayerFault.ReadFault) }
+    ensures reads { OnlyReads result (seen T.Shows stage.old) (seen T.Shows stage.new) }
+    ensures quiet { wanted ≡ false → staged ≡ false → seen T.Shows stage.new ≡ seen T.Shows stage.old }
+{
+    if !wanted && !staged {
+        return Ok(0);
+    }
+    match stage.len(slot) {
+        Ok(len) => Ok(len.min(u32::MAX as u64) as u32),
+        Err(_) => Err(LayerFault::ReadFault),
+    }
+}
+
+/// Whether a level-one word names a place at a multiple of 8.
+fn is_table_place(word: u32) -> bool
+    ensures { IsTrue result ↔ (IsPlace word × (word % 8 ≡ 0)) }
+{
+    word != 0 && word != SEE_PARENT && word % 8 == 0
+}
+
+impl<U: Unit> Layer<U> {
+    /// Whether the group of a track has a table at a multiple of 8, or gets one.
+    fn has_table(&self, t: Track) -> bool
+        requires { t.0 < track_count self.now.tables.layout.geo }
+        ensures has { IsTrue result → HasAlignedTable self.now.tables (t.0 / 256) }
+        ensures lacks { (claims : List Space_of) (w : World) → AgreesWith claims self.now w → result ≡ false → HasAlignedTable self.now.tables (t.0 / 256) → ⊥ }
+    {
+        let _layout = self.tables.layout();
+        is_table_place(self.tables.word(t.0 / GROUP_TRACKS))
+    }
+
+    /// Commits, where fewer than two more entries and words can be staged.
+    fn make_free_stages<T: Stage>(&mut self, stage: &mut T) -> Result<(), LayerFault>
+        requires whole { self.old.broken ≡ false }
+        requires can_read { CanRead self.old (seen T.Shows stage.old) }
+        ensures free { OnOk result (2 ≤ free_count self.new.tables.stages) }
+        ensures still { 2 ≤ free_count self.old.tables.stages → IsOk result × (self.new ≡ self.old) × (seen T.Shows stage.new ≡ seen T.Shows stage.old) }
+        ensures map { OnOk result (KeepsMap U.null_bytes self.old self.new (seen T.Shows stage.old) (seen T.Shows stage.new)) }
+        ensures act { IsAct [] U.null_bytes self.old self.new (seen T.Shows stage.old) (seen T.Shows stage.new) }
+        ensures broken { self.new.broken ≡ is_broken_by result }
+        ensures read { result ≡ Err LayerFault.ReadFault → (self.new ≡ self.old) × Stays (seen T.Shows stage.old) (seen T.Shows stage.new) }
+        ensures counts { CountsLayer result (seen T.Shows stage.old).faults (seen T.Shows stage.new).faults }
+    {
+        if self.tables.free_stages() >= 2 {
+            return Ok(());
+        }
+        match self.commit(stage) {
+            Ok(()) => Ok(()),
+            Err(fault) => Err(fault_of(fault)),
+        }
+    }
+
+    /// The entry of a track, the staged one or that of the file.
+    fn find_entry<T: Stage>(&mut self, stage: &mut T, t: Track) -> Result<L2Entry, LayerFault>
+        requires track { t.0 < track_count self.old.tables.layout.geo }
+        requires can_read { CanRead self.old (seen T.Shows stage.old) }
+        ensures entry { Tells (seen T.Shows stage.old) → Agrees self.old (seen T.Shows stage.old).world
+            → IfOk result (λ e. e ≡ entry_now self.old (seen T.Shows stage.old) t.0) }
+        ensures rest { self.new ≡ with_tables self.old (with_cached self.old.tables self.new.tables.cached) }
+        ensures looks { LooksUp t.0 self.old.tables self.new.tables }
+        ensures map { KeepsMap U.null_bytes self.old self.new (seen T.Shows stage.old) (seen T.Shows stage.new) }
+        ensures refusal { IfErr result (λ why. why ≡ LayerFault.ReadFault) }
+        ensures reads { OnlyReads result (seen T.Shows stage.old) (seen T.Shows stage.new) }
+        ensures quiet { IsAtHand t.0 self.old.tables → (seen T.Shows stage.new).calls ≡ (seen T.Shows stage.old).calls }
+    {
+        entry_of(&mut self.tables, stage, self.slot, t)
+    }
+
+    /// Claims the places of a write to a track, all or none.
+    fn try_places<T: Stage>(
+        &mut self,
+        stage: &mut T,
+        t: Track,
+        need: Option<u32>,
+    ) -> Result<Room, LayerFault>
+        requires track { t.0 < track_count self.old.tables.layout.geo }
+        requires need { IfSome need IsNeed }
+        requires spare { 4 ≤ self.old.plan.spare }
+        ensures rest { self.new ≡ with_plan self.old self.new.plan }
+        ensures room { IfOk result (IsRoom self.new t.0 need) }
+        ensures suits { Tells (seen T.Shows stage.old) → Agrees self.old (seen T.Shows stage.old).world
+            → IfOk result (λ room. SuitsFile self.new t.0 room (seen T.Shows stage.new).world) }
+        ensures map { IfOk result (λ room. KeepsMapWith [] (claims_of need room.places) U.null_bytes self.old self.new (seen T.Shows stage.old) (seen T.Shows stage.new)) }
+        ensures kept { OnErr result (KeepsMap U.null_bytes self.old self.new (seen T.Shows stage.old) (seen T.Shows stage.new)) }
+        ensures full { Tells (seen T.Shows stage.old) → Agrees self.old (seen T.Shows stage.old).world → IfErr result (IsDeniedFor self.old t.0 need) }
+        ensures kind { IfErr result IsDenial }
+        ensures reads { OnlyReads result (seen T.Shows stage.old) (seen T.Shows stage.new) }
+    {
+        let wanted = !self.has_table(t);
+        let staged = self.tables.staged_entry(t).is_some();
+        let len = match len_if(stage, self.slot, wanted, staged) {
+            Ok(len) => len,
+            Err(fault) => return Err(fault),
+        };
+        match self.claim_places(need, wanted, len) {
+            Ok(places) => Ok(Room { places, len }),
+            Err(full) => Err(LayerFault::Full(full)),
+        }
+    }
+}
