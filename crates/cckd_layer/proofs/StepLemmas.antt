@@ -1,5 +1,5 @@
 -- Two acts of a layer, one after the other.
-use Rattle.std.proofs.Common.{◌≡◌, ◌⊎◌, ◌<◌, ℕ, List, Option, sym, ◌∙◌, ap, subst}
+use Rattle.std.proofs.Common.{◌≡◌, ◌⊎◌, ◌<◌, ◌+◌, ℕ, List, Option, map, refl, sym, ◌∙◌, ap, subst, arith}
 use Rattle.cckd_shelf.specs.Outcomes.{EachOutcome, AtEach}
 use Rattle.cckd_shelf.specs.Seen.{Seen, Tells}
 use Rattle.cckd_shelf.specs.Frame.{OnlyIn}
@@ -8,10 +8,13 @@ use Rattle.cckd_shelf.proofs.FrameLemmas.{only_twice}
 use Rattle.cckd_base.specs.declared.geometry.Layout.{Layout}
 use Rattle.cckd_base.specs.declared.space.Extent.{Extent}
 use Rattle.cckd_base.specs.Geometry.{track_count}
+use Rattle.cckd_space.specs.Pieces.{counted, is_leaving, is_pending, leaving_kind, pending_kind, retired}
+use Rattle.cckd_space.proofs.CountLemmas.{count_retired, count_released}
 use Rattle.cckd_tables.specs.Tables.{TableView}
 use Rattle.cckd_layer.specs.Held.{NullBytes, Tracks, Later, IsLater, AreSame, LiesWithin, Keeps}
 use Rattle.cckd_layer.specs.Mounted.{LayerState}
-use Rattle.cckd_layer.specs.Writes.{Agrees, AgreesAgain, KeepsMap, KeepsMapWith, with_plan, map_of, IsSameLayer, IsCommitted, IsReleased, StopsWithin}
+use Rattle.cckd_layer.specs.Writes.{Agrees, AgreesAgain, KeepsMap, KeepsMapWith, with_plan, map_of, IsSameLayer, IsCommitted, IsReleased, IsSettled, StopsWithin}
+use Rattle.cckd_layer.specs.Acts.{spaces_of, settled_all}
 
 pub same_layer_twice : (a b c : LayerState) → IsSameLayer a b → IsSameLayer b c → IsSameLayer a c
 same_layer_twice a b c h k = record { slot = k.slot ∙ h.slot; header = k.header ∙ h.header; layout = k.layout ∙ h.layout; limit = k.limit ∙ h.limit }
@@ -31,6 +34,18 @@ released_same s next c = record {
   layout = ap (λ (x : LayerState). x.tables.layout) c.rest;
   limit = c.pieces.limit;
 }
+
+-- behind a commit and the sync that makes it stay, nothing is under way
+pub released_settled : (s m n : LayerState) → IsCommitted s m → IsReleased m n → IsSettled n
+released_settled s m n c r =
+    let settled = settled_all (spaces_of s.tables.stages) c.pieces.freed.pieces in
+    let made : m.plan.pieces ≡ map retired settled = c.pieces.settled.made in
+    let left : counted is_leaving m.plan.pieces ≡ 0 = ap (counted is_leaving) made ∙ (let k = count_retired leaving_kind refl settled in omega (arith, k)) in
+    record {
+      stages = ap (λ (x : LayerState). x.tables.stages) r.rest ∙ ap (λ (t : TableView). t.stages) c.tables.rest;
+      leaving = ap (counted is_leaving) r.pieces.made ∙ (let k = count_released leaving_kind refl m.plan.pieces in omega (arith, k, left));
+      pending = ap (counted is_pending) r.pieces.made ∙ (let k = count_released pending_kind refl m.plan.pieces in omega (arith, k));
+    }
 
 -- a layer agrees with its file after both, where it does after each
 pub agrees_twice : (null : NullBytes) (s m n : LayerState) (a b c : Seen) → IsSameLayer s m → AgreesAgain null s m a b → AgreesAgain null m n b c → AgreesAgain null s n a c

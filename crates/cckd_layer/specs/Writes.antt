@@ -13,7 +13,7 @@ use Rattle.cckd_base.specs.declared.space.Full.{Full}
 use Rattle.cckd_base.specs.declared.space.Extent.{Extent}
 use Rattle.cckd_base.specs.declared.entry.L2Entry.{L2Entry}
 use Rattle.cckd_base.specs.Geometry.{track_count}
-use Rattle.cckd_space.specs.Pieces.{merged, released}
+use Rattle.cckd_space.specs.Pieces.{counted, is_leaving, is_pending, merged, released}
 use Rattle.cckd_space.specs.Plan.{Plan, Becomes, IsSound}
 use Rattle.cckd_tables.specs.declared.device.Device.{Device}
 use Rattle.cckd_tables.specs.declared.device.Device.TheVariants as device
@@ -167,6 +167,12 @@ pub record IsReleased (old new : LayerState) : Type 0 where
   pub pieces : Becomes old.plan new.plan (merged (map released old.plan.pieces)) old.plan.size
   pub sound : IsSound new.plan
   pub rest : new ≡ record old { plan = new.plan; hardened = true }
+
+-- nothing is staged, no piece leaves, and none waits for a sync
+pub record IsSettled (s : LayerState) : Type 0 where
+  pub stages : s.tables.stages ≡ nothing_staged
+  pub leaving : counted is_leaving s.plan.pieces ≡ 0
+  pub pending : counted is_pending s.plan.pieces ≡ 0
 
 -- a stop leaves what the layer has, and nothing else, where it agreed with its file before
 abbrev pub StopHolds : NullBytes → LayerState → Seen → Seen → Type 0

@@ -5,7 +5,7 @@ ghost use Rattle.cckd_shelf.specs.Frame.{OnlyIn};
 ghost use Rattle.cckd_tables.specs.Device.{CountsDevice};
 ghost use Rattle.cckd_layer.specs.Stands.{nothing_staged};
 ghost use Rattle.cckd_layer.specs.Mounted.{CanRead};
-ghost use Rattle.cckd_layer.specs.Writes.{KeepsMap, StopsWithin, StopHolds, IsReleased, IsSameLayer, IsOutside, CountsLayer, failed_by, fault_of, is_broken_by};
+ghost use Rattle.cckd_layer.specs.Writes.{KeepsMap, StopsWithin, StopHolds, IsReleased, IsSettled, IsSameLayer, IsOutside, CountsLayer, failed_by, fault_of, is_broken_by};
 
 use crate::layer::Layer;
 use cckd_base::{LayerFault, Unit};
@@ -48,6 +48,7 @@ impl<U: Unit> Layer<U> {
         requires whole { self.old.broken ≡ false }
         requires can_read { CanRead self.old (seen T.Shows stage.old) }
         ensures hardened { OnOk result (self.new.hardened ≡ true) }
+        ensures settled { OnOk result (IsSettled self.new) }
         ensures marked { self.new.marked ≡ self.old.marked }
         ensures same { IsSameLayer self.old self.new }
         ensures map { OnOk result (KeepsMap U.null_bytes self.old self.new (seen T.Shows stage.old) (seen T.Shows stage.new)) }

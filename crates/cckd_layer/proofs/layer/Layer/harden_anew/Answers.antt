@@ -1,5 +1,5 @@
 use Rattle.cckd_shelf.specs.Seen.{seen}
-use Rattle.cckd_layer.proofs.StepLemmas.{committed_same, within_twice, only_then}
+use Rattle.cckd_layer.proofs.StepLemmas.{committed_same, within_twice, only_then, released_settled}
 use Rattle.cckd_layer.proofs.layer.Layer.harden_anew.Goals as goal
 
 pub returns-in-Ok-clause-stopped : goal.returns-in-Ok-clause-stopped
@@ -37,3 +37,7 @@ returns-in-Err-make_stay-clause-others g c =
     let b = seen g.T.Shows c.commit.new.stage in
     let z = seen g.T.Shows c.make_stay.new.stage in
     only_then s.slot m.slot a b z (λ told. told) (committed_same s m c.in_default.ensures.committed).slot c.commit.ensures.others c.make_stay.ensures.others
+
+pub returns-in-Ok-clause-settled : goal.returns-in-Ok-clause-settled
+returns-in-Ok-clause-settled g c =
+    released_settled c.args.self.now c.commit.new.self c.make_stay.new.self c.in_default.ensures.committed c.in-Ok.ensures.released
