@@ -34,4 +34,5 @@ pub mod StagedLemmas
 pub mod StandLemmas
 pub mod StepLemmas
 pub mod SwapLemmas
+pub mod ThenLemmas
 pub mod WritesLemmas

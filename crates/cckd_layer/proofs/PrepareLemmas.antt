@@ -1,5 +1,5 @@
 -- What a write needs before it changes anything.
-use Rattle.std.proofs.Common.{◌≡◌, ◌⊎◌, ◌↔◌, ◌+◌, ◌%◌, ◌/◌, ◌<◌, ◌≤◌, ℕ, List, [], ◌++◌, length, slice_index, Bool, true, false, IsTrue, Option, Some, None, IsSome, refl, sym, ◌∙◌, ap, subst, inl, inr, arith}
+use Rattle.std.proofs.Common.{◌≡◌, ◌⊎◌, ◌↔◌, ◌+◌, ◌%◌, ◌/◌, ◌<◌, ◌≤◌, ℕ, List, [], ◌++◌, length, slice_index, Bool, true, false, IsTrue, Option, Some, None, IsSome, Result, Ok, Err, IfErr, refl, sym, ◌∙◌, ap, subst, inl, inr, arith}
 use Rattle.std.specs.Option.{unwrap_or}
 use Rattle.cckd_shelf.specs.World.{World, file_of}
 use Rattle.cckd_shelf.specs.Seen.{Seen, Tells, Stays}
@@ -13,7 +13,11 @@ use Rattle.cckd_tables.specs.Looking.{HasAlignedTable, word_of, with_cached}
 use Rattle.cckd_layer.specs.Held.{NullBytes}
 use Rattle.cckd_layer.specs.Stands.{Stands}
 use Rattle.cckd_layer.specs.Mounted.{LayerState, with_tables}
-use Rattle.cckd_layer.specs.Writes.{AgreesWith, AgreesAgainWith, KeepsMapWith, entry_now, map_of, claimed_view}
+use Rattle.cckd_base.specs.declared.layer_fault.LayerFault.{LayerFault}
+use Rattle.cckd_base.specs.declared.layer_fault.LayerFault.TheVariants as fault
+use Rattle.cckd_layer.specs.declared.preparing.Room.{Room}
+use Rattle.cckd_layer.specs.Preparing.{HasNoneToFree, WantsTable, IsDenial, IsDeniedFor, IsNoRoomIn}
+use Rattle.cckd_layer.specs.Writes.{Agrees, with_plan, AgreesWith, AgreesAgainWith, KeepsMapWith, entry_now, map_of, claimed_view}
 
 -- a word at a place at a multiple of 8 is that of a group that has, or gets, an aligned table
 pub word_has : (v : TableView) (g : ℕ) → IsPlace (word_of v g) → word_of v g % 8 ≡ 0 → HasAlignedTable v g
@@ -72,3 +76,30 @@ pub seen_as : (before behind : List Extent) (null : NullBytes) (s next : LayerSt
 seen_as before behind null s next old new stays map told a =
     let k = map told a in
     subst (λ (w : World). AgreesAgainWith behind null s next old (record new { world = w })) (sym (stays told)) (record { agrees = k.agrees; entries = k.entries; same = k.same })
+
+-- a layer whose claims were given back is as it was, but for its pieces
+plan_back : (s next : LayerState) (w new : World) → next ≡ with_plan s next.plan → new ≡ w → Agrees s w → Agrees (with_plan next s.plan) new
+plan_back s next w new rest stays a =
+    let same : with_plan next s.plan ≡ s = ap (λ (x : LayerState). with_plan x s.plan) rest in
+    subst (λ (x : LayerState). Agrees x new) (sym same) (subst (λ (x : World). Agrees s x) (sym stays) a)
+
+-- where nothing waits to be freed, a try that is denied tells that there is no room
+pub denied_lacks : (s next : LayerState) (old new : Seen) (t : ℕ) (need : Option ℕ) (r : Result Room LayerFault) → next ≡ with_plan s next.plan → Stays old new → HasNoneToFree s.plan
+    → (Tells old → Agrees s old.world → IfErr r (IsDeniedFor s t need)) → IfErr r IsDenial → IfErr r (IsNoRoomIn s next old new t need)
+denied_lacks s next old new t need (Ok room) rest stays none denied kind = tt
+denied_lacks s next old new t need (Err (fault.Full full)) rest stays none denied kind = λ told a.
+    let d = denied told a in
+    let tables = ap (λ (x : LayerState). x.tables) rest in
+    record {
+      tried = s.plan;
+      agrees = plan_back s next old.world new.world rest (stays told) a;
+      none = none;
+      lacks = inl (d.0, record {
+        new = λ e has. d.1.new e (subst (λ (v : TableView). HasAlignedTable v (t / 256)) tables has);
+        old = λ e. subst (λ (v : TableView). HasAlignedTable v (t / 256)) (sym tables) (d.1.old e);
+      }, d.2);
+    }
+denied_lacks s next old new t need (Err (fault.Track why)) rest stays none denied kind = absurd kind
+denied_lacks s next old new t need (Err fault.ReadFault) rest stays none denied kind = λ told a. tt
+denied_lacks s next old new t need (Err fault.WriteFault) rest stays none denied kind = absurd kind
+denied_lacks s next old new t need (Err fault.SyncFault) rest stays none denied kind = absurd kind

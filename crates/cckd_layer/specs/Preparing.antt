@@ -1,8 +1,8 @@
 -- What a write needs before it changes anything: room among what is staged, and places.
-use Rattle.std.specs.Prelude.{ℕ, ◌≡◌, ◌⊎◌, ◌<◌, ◌≤◌, ◌/◌, Bool, true, false, length, Option, None, IsSome, Result, Ok, Err}
+use Rattle.std.specs.Prelude.{ℕ, ◌≡◌, ◌⊎◌, ◌<◌, ◌≤◌, ◌/◌, Bool, true, false, length, Option, Some, None, IsSome, Result, Ok, Err}
 use Rattle.std.specs.Option.{is_some}
 use Rattle.cckd_shelf.specs.World.{World, file_of}
-use Rattle.cckd_shelf.specs.Seen.{Seen, Tells}
+use Rattle.cckd_shelf.specs.Seen.{Seen, Tells, Stays}
 use Rattle.cckd_base.specs.declared.space.Full.{Full}
 use Rattle.cckd_base.specs.declared.layer_fault.LayerFault.{LayerFault}
 use Rattle.cckd_base.specs.declared.layer_fault.LayerFault.TheVariants as fault
@@ -41,9 +41,7 @@ pub record LacksRoom (s : LayerState) (w : World) (t : ℕ) (need : Option ℕ) 
   pub tried : Plan
   pub agrees : Agrees (with_plan s tried) w
   pub none : HasNoneToFree tried
-  pub wanted : Bool
-  pub wants : WantsTable s t wanted
-  pub lacks : HaveNoPlaces wanted need tried full ⊎ (tried.spare < 4)
+  pub lacks : ((wanted : Bool) × WantsTable s t wanted × HaveNoPlaces wanted need tried full) ⊎ (tried.spare < 4)
 
 -- why a write isn't given its places: no room, or a call failed
 abbrev pub IsNoRoom : LayerState → World → ℕ → Option ℕ → LayerFault → Type 0
@@ -65,3 +63,22 @@ IsDenial why = ⊥
 abbrev pub IsDeniedFor : LayerState → ℕ → Option ℕ → LayerFault → Type 0
 IsDeniedFor s t need (fault.Full full) = (wanted : Bool) × WantsTable s t wanted × HaveNoPlaces wanted need s.plan full
 IsDeniedFor s t need why = Unit {0}
+
+-- what a write may be refused for, but for the bytes given
+abbrev pub IsUnwritten : LayerFault → Type 0
+IsUnwritten (fault.Track why) = ⊥
+IsUnwritten why = Unit {0}
+
+-- there is room for a write on the pieces as they are
+abbrev pub FindsRoom : LayerState → ℕ → Option ℕ → Type 0
+FindsRoom s t need = (wanted : Bool) (full : Full) → WantsTable s t wanted → HaveNoPlaces wanted need s.plan full → ⊥
+
+-- no place was given
+abbrev pub IsUnplaced : Result (Option Room) LayerFault → Type 0
+IsUnplaced (Ok (Some room)) = ⊥
+IsUnplaced result = Unit {0}
+
+-- nothing was done to the outside, and of the layer no more than its pieces changed
+pub record IsUntouched (s next : LayerState) (old new : Seen) : Type 0 where
+  pub rest : next ≡ with_plan s next.plan
+  pub stays : Stays old new

@@ -54,6 +54,7 @@ impl<U: Unit> Layer<U> {
         ensures place { IfOk result (λ pos. pos ≡ place_of need self.old.plan.pieces) }
         ensures reserved { OnOk result (IsReserved need self.old.plan self.new.plan) }
         ensures rest { self.new ≡ with_plan self.old self.new.plan }
+        ensures limit { self.new.plan.limit ≡ self.old.plan.limit }
         ensures map { (claims : List Space_of) (w : Seen) → IfOk result (λ pos. KeepsMapWith claims (claim pos need ∷ claims) U.null_bytes self.old self.new w w) }
         ensures full { IfErr result (HasNoRoom need self.old.plan) }
         ensures same { OnErr result (self.new ≡ self.old) }
@@ -67,6 +68,7 @@ impl<U: Unit> Layer<U> {
     pub(crate) fn unclaim(&mut self, pos: u32, len: u32)
         ensures gives { MayGiveBack pos len self.old.plan self.new.plan }
         ensures rest { self.new ≡ with_plan self.old self.new.plan }
+        ensures limit { self.new.plan.limit ≡ self.old.plan.limit }
         ensures map { (claims : List Space_of) (n : ℕ) (w : Seen) → len ≡ length (file_of w.world self.old.slot)
             → KeepsMapWith (claim pos n ∷ claims) claims U.null_bytes self.old self.new w w }
         ensures spent { self.old.plan.spare ≤ self.new.plan.spare }
@@ -113,6 +115,7 @@ impl<U: Unit> Layer<U> {
     fn claim_table(&mut self, wanted: bool) -> Result<Option<u32>, Full>
         requires spare { 2 ≤ self.old.plan.spare }
         ensures rest { self.new ≡ with_plan self.old self.new.plan }
+        ensures limit { self.new.plan.limit ≡ self.old.plan.limit }
         ensures map { (w : Seen) → IfOk result (λ place. KeepsMapWith [] (claim_of (Some 2048) place) U.null_bytes self.old self.new w w) }
         ensures wanted { IfOk result (λ place. is_some place ≡ wanted) }
         ensures granted { OnOk result (IsGranted (table_need wanted) self.old.plan self.new.plan) }
@@ -134,6 +137,7 @@ impl<U: Unit> Layer<U> {
         requires need { IfSome need IsNeed }
         requires spare { 2 ≤ self.old.plan.spare }
         ensures rest { self.new ≡ with_plan self.old self.new.plan }
+        ensures limit { self.new.plan.limit ≡ self.old.plan.limit }
         ensures map { (claims : List Space_of) (w : Seen) → IfOk result (λ place. KeepsMapWith claims (claim_of need place ++ claims) U.null_bytes self.old self.new w w) }
         ensures wanted { IfOk result (λ place. is_some place ≡ is_some need) }
         ensures granted { OnOk result (IsGranted need self.old.plan self.new.plan) }
@@ -152,6 +156,7 @@ impl<U: Unit> Layer<U> {
     /// Gives the place of a new table back, where there is one. The file is `len` bytes long.
     fn unclaim_table(&mut self, table: Option<u32>, len: u32)
         ensures rest { self.new ≡ with_plan self.old self.new.plan }
+        ensures limit { self.new.plan.limit ≡ self.old.plan.limit }
         ensures map { (w : Seen) → (IsSome table → len ≡ length (file_of w.world self.old.slot))
             → KeepsMapWith (claim_of (Some 2048) table) [] U.null_bytes self.old self.new w w }
     {
@@ -171,6 +176,7 @@ impl<U: Unit> Layer<U> {
         requires need { IfSome need IsNeed }
         requires spare { 4 ≤ self.old.plan.spare }
         ensures rest { self.new ≡ with_plan self.old self.new.plan }
+        ensures limit { self.new.plan.limit ≡ self.old.plan.limit }
         ensures table { IfOk result (λ places. is_some places.table ≡ wanted) }
         ensures track { IfOk result (λ places. is_some places.track ≡ is_some need) }
         ensures map { (w : Seen) → IfOk result (λ places. KeepsMapWith [] (claims_of need places) U.null_bytes self.old self.new w w) }

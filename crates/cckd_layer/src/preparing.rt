@@ -1,5 +1,5 @@
 //! What a write needs before it changes anything: room among what is staged, the entry of its track, and places.
-ghost use Rattle.std.specs.Prelude.{◌≡◌, ◌⊎◌, ◌↔◌, ◌<◌, ◌≤◌, ◌/◌, ◌%◌, ◌^◌, [], List, length, IsTrue, IsSome, IfSome, IsOk, IfOk, OnOk, IfErr, OnErr, Err, true, false};
+ghost use Rattle.std.specs.Prelude.{◌≡◌, ◌⊎◌, ◌↔◌, ◌<◌, ◌≤◌, ◌/◌, ◌%◌, ◌^◌, [], List, length, IsTrue, IsSome, IfSome, IsOk, IfOk, OnOk, IfErr, OnErr, Ok, Err, None, true, false};
 ghost use Rattle.std.specs.Option.{is_some};
 ghost use Rattle.cckd_shelf.specs.Seen.{Seen, seen, Tells, Stays};
 ghost use Rattle.cckd_shelf.specs.World.{World, IsSure, file_of};
@@ -12,13 +12,13 @@ ghost use Rattle.cckd_tables.specs.Looking.{HasAlignedTable, with_cached};
 ghost use Rattle.cckd_layer.specs.Mounted.{CanRead, with_tables};
 ghost use Rattle.cckd_layer.specs.Reads.{OfFile, OnlyReads, LooksUp, IsAtHand};
 ghost use Rattle.cckd_layer.specs.Writes.{Agrees, AgreesWith, AgreesIn, KeepsMap, KeepsMapWith, IsAct, CountsLayer, HaveNoPlaces, entry_now, claims_of, is_broken_by, with_plan};
-ghost use Rattle.cckd_layer.specs.Preparing.{HasNoneToFree, IsRoom, SuitsFile, IsDenial, IsDeniedFor, IsNoRoomIn};
+ghost use Rattle.cckd_layer.specs.Preparing.{HasNoneToFree, IsRoom, SuitsFile, IsDenial, IsDeniedFor, IsNoRoomIn, IsUnplaced, IsUnwritten, IsUntouched, FindsRoom};
 
 use crate::claiming::Places;
 use crate::hardening::fault_of;
 use crate::layer::Layer;
 use crate::reading::entry_of;
-use cckd_base::{Full, GROUP_TRACKS, L2Entry, LayerFault, SEE_PARENT, Track, Unit};
+use cckd_base::{Full, GROUP_TRACKS, L2Entry, LayerFault, SEE_PARENT, TABLE_LEN, Track, Unit};
 use cckd_shelf::{Slot, Stage};
 
 /// How many pieces the places of a write may add.
@@ -119,6 +119,7 @@ impl<U: Unit> Layer<U> {
         requires need { IfSome need IsNeed }
         requires spare { 4 ≤ self.old.plan.spare }
         ensures rest { self.new ≡ with_plan self.old self.new.plan }
+        ensures limit { self.new.plan.limit ≡ self.old.plan.limit }
         ensures room { IfOk result (IsRoom self.new t.0 need) }
         ensures suits { Tells (seen T.Shows stage.old) → Agrees self.old (seen T.Shows stage.old).world
             → IfOk result (λ room. SuitsFile self.new t.0 room (seen T.Shows stage.new).world) }
@@ -138,5 +139,130 @@ impl<U: Unit> Layer<U> {
             Ok(places) => Ok(Room { places, len }),
             Err(full) => Err(LayerFault::Full(full)),
         }
+    }
+
+    /// Whether the places of a write can be kept.
+    fn has_spare(&mut self) -> bool
+        ensures answer { IsTrue result ↔ (4 ≤ self.old.plan.spare) }
+        ensures same { self.new ≡ self.old }
+    {
+        self.space.has_spare(PLACED)
+    }
+
+    /// The same once all is hardened, where nothing waits to be freed.
+    fn place_hardened<T: Stage>(
+        &mut self,
+        stage: &mut T,
+        t: Track,
+        need: Option<u32>,
+    ) -> Result<Room, LayerFault>
+        requires track { t.0 < track_count self.old.tables.layout.geo }
+        requires need { IfSome need IsNeed }
+        ensures rest { self.new ≡ with_plan self.old self.new.plan }
+        ensures limit { self.new.plan.limit ≡ self.old.plan.limit }
+        ensures room { IfOk result (IsRoom self.new t.0 need) }
+        ensures suits { Tells (seen T.Shows stage.old) → Agrees self.old (seen T.Shows stage.old).world
+            → IfOk result (λ room. SuitsFile self.new t.0 room (seen T.Shows stage.new).world) }
+        ensures map { IfOk result (λ room. KeepsMapWith [] (claims_of need room.places) U.null_bytes self.old self.new (seen T.Shows stage.old) (seen T.Shows stage.new)) }
+        ensures kept { OnErr result (KeepsMap U.null_bytes self.old self.new (seen T.Shows stage.old) (seen T.Shows stage.new)) }
+        ensures full { HasNoneToFree self.old.plan → IfErr result (IsNoRoomIn self.old self.new (seen T.Shows stage.old) (seen T.Shows stage.new) t.0 need) }
+        ensures kind { IfErr result IsDenial }
+        ensures reads { OnlyReads result (seen T.Shows stage.old) (seen T.Shows stage.new) }
+    {
+        if !self.has_spare() {
+            return Err(LayerFault::Full(Full {
+                need: need.unwrap_or(TABLE_LEN),
+                largest: 0,
+                room: 0,
+            }));
+        }
+        self.try_places(stage, t, need)
+    }
+
+    /// Whether something waits to be freed.
+    fn waits(&self) -> bool
+        ensures none { result ≡ false → HasNoneToFree self.now.plan }
+        ensures some { HasNoneToFree self.now.plan → result ≡ false }
+    {
+        self.space.has_leaving() || self.space.has_pending()
+    }
+
+    /// Claims the places of a write to a track, all or none; or answers nothing, where something may be freed first.
+    fn place_at_once<T: Stage>(
+        &mut self,
+        stage: &mut T,
+        t: Track,
+        need: Option<u32>,
+    ) -> Result<Option<Room>, LayerFault>
+        requires track { t.0 < track_count self.old.tables.layout.geo }
+        requires need { IfSome need IsNeed }
+        ensures rest { self.new ≡ with_plan self.old self.new.plan }
+        ensures limit { self.new.plan.limit ≡ self.old.plan.limit }
+        ensures room { IfOk result (λ o. IfSome o (IsRoom self.new t.0 need)) }
+        ensures suits { Tells (seen T.Shows stage.old) → Agrees self.old (seen T.Shows stage.old).world
+            → IfOk result (λ o. IfSome o (λ room. SuitsFile self.new t.0 room (seen T.Shows stage.new).world)) }
+        ensures map { IfOk result (λ o. IfSome o (λ room. KeepsMapWith [] (claims_of need room.places) U.null_bytes self.old self.new (seen T.Shows stage.old) (seen T.Shows stage.new))) }
+        ensures kept { IsUnplaced result → KeepsMap U.null_bytes self.old self.new (seen T.Shows stage.old) (seen T.Shows stage.new) }
+        ensures full { IfErr result (IsNoRoomIn self.old self.new (seen T.Shows stage.old) (seen T.Shows stage.new) t.0 need) }
+        ensures kind { IfErr result IsDenial }
+        ensures reads { OnlyReads result (seen T.Shows stage.old) (seen T.Shows stage.new) }
+        ensures waits { HasNoneToFree self.old.plan → 4 ≤ self.old.plan.spare → result ≡ Ok None → ⊥ }
+        ensures finds { Tells (seen T.Shows stage.old) → Agrees self.old (seen T.Shows stage.old).world → FindsRoom self.old t.0 need
+            → 4 ≤ self.old.plan.spare → result ≡ Ok None → ⊥ }
+    {
+        if !self.has_spare() {
+            return Ok(None);
+        }
+        let waits = self.waits();
+        let tried = self.try_places(stage, t, need);
+        if !waits {
+            return match tried {
+                Ok(room) => Ok(Some(room)),
+                Err(fault) => Err(fault),
+            };
+        }
+        match tried {
+            Ok(room) => Ok(Some(room)),
+            Err(fault) => match fault {
+                LayerFault::Full(_) => Ok(None),
+                fault => Err(fault),
+            },
+        }
+    }
+
+    /// Claims the places of a write to a track, all or none. Where they aren't there and something waits to be freed, it
+    /// hardens, and tries again.
+    pub(crate) fn find_places<T: Stage>(
+        &mut self,
+        stage: &mut T,
+        t: Track,
+        need: Option<u32>,
+    ) -> Result<Room, LayerFault>
+        requires whole { self.old.broken ≡ false }
+        requires can_read { CanRead self.old (seen T.Shows stage.old) }
+        requires track { t.0 < track_count self.old.tables.layout.geo }
+        requires need { IfSome need IsNeed }
+        ensures room { IfOk result (IsRoom self.new t.0 need) }
+        ensures free { 2 ≤ free_count self.old.tables.stages → OnOk result (2 ≤ free_count self.new.tables.stages) }
+        ensures suits { Tells (seen T.Shows stage.old) → Agrees self.old (seen T.Shows stage.old).world
+            → IfOk result (λ room. SuitsFile self.new t.0 room (seen T.Shows stage.new).world) }
+        ensures map { IfOk result (λ room. KeepsMapWith [] (claims_of need room.places) U.null_bytes self.old self.new (seen T.Shows stage.old) (seen T.Shows stage.new)) }
+        ensures kept { IfErr result (λ why. IsDenial why → KeepsMap U.null_bytes self.old self.new (seen T.Shows stage.old) (seen T.Shows stage.new)) }
+        ensures full { IfErr result (IsNoRoomIn self.old self.new (seen T.Shows stage.old) (seen T.Shows stage.new) t.0 need) }
+        ensures kind { IfErr result IsUnwritten }
+        ensures act { IsAct [] U.null_bytes self.old self.new (seen T.Shows stage.old) (seen T.Shows stage.new) }
+        ensures broken { self.new.broken ≡ is_broken_by result }
+        ensures counts { CountsLayer result (seen T.Shows stage.old).faults (seen T.Shows stage.new).faults }
+
+        // Where nothing waits to be freed, or the places are there, nothing is done.
+        ensures still { HasNoneToFree self.old.plan → 4 ≤ self.old.plan.spare → IsUntouched self.old self.new (seen T.Shows stage.old) (seen T.Shows stage.new) }
+        ensures finds { Tells (seen T.Shows stage.old) → Agrees self.old (seen T.Shows stage.old).world → FindsRoom self.old t.0 need
+            → 4 ≤ self.old.plan.spare → IsUntouched self.old self.new (seen T.Shows stage.old) (seen T.Shows stage.new) }
+    {
+        if let Some(room) = self.place_at_once(stage, t, need)? {
+            return Ok(room);
+        }
+        self.harden_anew(stage)?;
+        self.place_hardened(stage, t, need)
     }
 }

@@ -1,0 +1,87 @@
+-- Acts of a layer that has claimed places, one after the other.
+use Rattle.std.proofs.Common.{◌≡◌, ◌⊎◌, ◌<◌, ℕ, List, [], Option, IsSome, None, refl, sym, ◌∙◌, ap, subst}
+use Rattle.cckd_shelf.specs.Outcomes.{EachOutcome, AtEach}
+use Rattle.cckd_shelf.specs.Seen.{Seen, Tells, Stays}
+use Rattle.cckd_shelf.specs.Frame.{OnlyIn}
+use Rattle.cckd_shelf.proofs.MomentLemmas.{joins, at_end, kept_at}
+use Rattle.cckd_shelf.proofs.FrameLemmas.{only_twice, only_stays}
+use Rattle.cckd_base.specs.declared.geometry.Layout.{Layout}
+use Rattle.cckd_base.specs.declared.space.Extent.{Extent}
+use Rattle.cckd_base.specs.Geometry.{track_count}
+use Rattle.cckd_space.specs.declared.piece.Piece.{Piece}
+use Rattle.cckd_space.specs.Pieces.{first, is_reserved_at}
+use Rattle.cckd_space.specs.Plan.{Plan}
+use Rattle.cckd_tables.specs.declared.device.Device.{Device}
+use Rattle.cckd_tables.specs.declared.device.Device.TheVariants as device
+use Rattle.cckd_layer.specs.Held.{NullBytes, Tracks, Later, IsLater, AreSame, LiesWithin, Keeps}
+use Rattle.cckd_layer.specs.Mounted.{LayerState}
+use Rattle.cckd_layer.specs.Acts.{MayGiveBack}
+use Rattle.cckd_layer.specs.Writes.{AgreesWith, AgreesAgainWith, KeepsMapWith, StopsWithin, StopsWithinWith, IsSameLayer, IsSameFile, IsAct, map_of, failed_by}
+
+pub same_file_twice : (a b c : LayerState) → IsSameFile a b → IsSameFile b c → IsSameFile a c
+same_file_twice a b c h k = record { slot = k.slot ∙ h.slot; layout = k.layout ∙ h.layout; limit = k.limit ∙ h.limit }
+
+pub same_file : (a b : LayerState) → IsSameLayer a b → IsSameFile a b
+same_file a b h = record { slot = h.slot; layout = h.layout; limit = h.limit }
+
+-- a call that fails leaves the file that the layer is of
+pub same_failed : (s : LayerState) (d : Device) → IsSameFile s (failed_by d s)
+same_failed s device.Read = record { slot = refl; layout = refl; limit = refl }
+same_failed s device.Write = record { slot = refl; layout = refl; limit = refl }
+same_failed s device.Sync = record { slot = refl; layout = refl; limit = refl }
+
+-- giving a place back leaves the limit
+pub limit_given : (pos len : ℕ) (old new : Plan) → MayGiveBack pos len old new → new.limit ≡ old.limit
+limit_given pos len old new may = by (first (is_reserved_at pos) old.pieces) refl
+  where
+    by : (o : Option Piece) → first (is_reserved_at pos) old.pieces ≡ o → new.limit ≡ old.limit
+    by None none = ap (λ (p : Plan). p.limit) (may.kept none)
+    by (Some p) some = (may.given (subst (λ (x : Option Piece). IsSome x) (sym some) refl)).limit
+
+-- an act that does nothing to the outside
+pub act_still : (claims : List Extent) (null : NullBytes) (s next : LayerState) (old new : Seen) → IsSameFile s next → Stays old new → IsAct claims null s next old new
+act_still claims null s next old new same stays = record {
+  same = same;
+  stopped = λ d later told a within each. kept_at (EachOutcome s.slot (Keeps null s.tables.layout d later)) old.world new.world (stays told) each;
+  others = only_stays s.slot old new stays;
+}
+
+-- the map is kept by both, where it is by each
+pub maps_then : (before mid behind : List Extent) (null : NullBytes) (s m n : LayerState) (a b c : Seen) → (Tells a → Tells b) → IsSameFile s m → KeepsMapWith before mid null s m a b → KeepsMapWith mid behind null m n b c
+    → KeepsMapWith before behind null s n a c
+maps_then before mid behind null s m n a b c tells same h k told agrees =
+    let first = h told agrees in
+    let again = k (tells told) first.agrees in
+    record {
+      agrees = again.agrees;
+      entries = λ t low. again.entries t (subst (λ (l : Layout). t < track_count l.geo) (sym same.layout) low) ∙ first.entries t low;
+      same = record { each = λ t low. again.same.each t (subst (λ (l : Layout). t < track_count l.geo) (sym same.layout) low) ∙ first.same.each t low };
+    }
+
+-- the same stretch, of another state of the layer
+within_as : (claims : List Extent) (null : NullBytes) (slot : ℕ) (l : Layout) (m : LayerState) (old new : Seen) → m.slot ≡ slot → m.tables.layout ≡ l → StopsWithinWith claims null m old new
+    → (d : Tracks) (later : List Later) → Tells old → AgreesWith claims m old.world → LiesWithin (track_count l.geo) d later (map_of null m old)
+    → EachOutcome slot (Keeps null l d later) old.world.events → AtEach old.world.events new.world.events (EachOutcome slot (Keeps null l d later))
+within_as claims null slot l m old new at is h =
+    subst (λ (x : Layout). (d : Tracks) (later : List Later) → Tells old → AgreesWith claims m old.world → LiesWithin (track_count x.geo) d later (map_of null m old)
+    → EachOutcome slot (Keeps null x d later) old.world.events → AtEach old.world.events new.world.events (EachOutcome slot (Keeps null x d later))) is
+    (subst (λ (n : ℕ). (d : Tracks) (later : List Later) → Tells old → AgreesWith claims m old.world → LiesWithin (track_count m.tables.layout.geo) d later (map_of null m old)
+    → EachOutcome n (Keeps null m.tables.layout d later) old.world.events → AtEach old.world.events new.world.events (EachOutcome n (Keeps null m.tables.layout d later))) at h)
+
+same_within : (count : ℕ) (d m k : Tracks) (later : List Later) → AreSame count k m → LiesWithin count d later m → LiesWithin count d later k
+same_within count d m k later same within = record { each = λ t low. subst (λ (o : Option (List ℕ)). (o ≡ d t) ⊎ IsLater later t o) (sym (same.each t low)) (within.each t low) }
+
+-- two acts of which the first keeps the map are one
+pub act_then : (before mid : List Extent) (null : NullBytes) (s m n : LayerState) (a b c : Seen) → (Tells a → Tells b) → IsAct before null s m a b → KeepsMapWith before mid null s m a b → IsAct mid null m n b c → IsAct before null s n a c
+act_then before mid null s m n a b c tells h map k = record {
+  same = same_file_twice s m n h.same k.same;
+  stopped = λ d later told agrees within each.
+      let l = s.tables.layout in
+      let Q = EachOutcome s.slot (Keeps null l d later) in
+      let first = h.stopped d later told agrees within each in
+      let again = map told agrees in
+      joins Q a.world.events b.world.events c.world.events first
+      (within_as mid null s.slot l m b c h.same.slot h.same.layout k.stopped d later (tells told) again.agrees (same_within (track_count l.geo) d (map_of null s a) (map_of null m b) later again.same within)
+      (at_end Q a.world.events b.world.events first));
+  others = only_twice s.slot a b c tells h.others (subst (λ (n : ℕ). OnlyIn n b c) h.same.slot k.others);
+}
