@@ -43,7 +43,7 @@ becomes_nothing plan = record { made = refl; sized = refl; limit = refl; spare =
 -- two changes in a row
 pub becomes_then : (a b c : Plan) (xs ys : List Extent) → Becomes a b (settled_all xs a.pieces) a.size → Becomes b c (settled_all ys b.pieces) b.size → Becomes a c (settled_all (xs ++ ys) a.pieces) a.size
 becomes_then a b c xs ys f g =
-    let now : c.pieces ≡ settled_all (xs ++ ys) a.pieces = g.now ∙ (ap (settled_all ys) f.now ∙ sym (settled_append xs ys a.pieces)) in
+    let now : c.pieces ≡ settled_all (xs ++ ys) a.pieces = g.made ∙ (ap (settled_all ys) f.made ∙ sym (settled_append xs ys a.pieces)) in
     record {
       made = now;
       sized = g.sized ∙ f.sized;
@@ -51,8 +51,8 @@ becomes_then a b c xs ys f g =
       spare =
           let first = f.spare in
           let second = g.spare in
-          let p = ap length f.now in
-          let q = ap length g.now in
+          let p = ap length f.made in
+          let q = ap length g.made in
           let r = ap length now in
           omega (arith, first, second, p, q, r);
     }

@@ -17,7 +17,7 @@ use Rattle.cckd_space.proofs.SpareLemmas.{pieces_bound}
 use Rattle.cckd_tables.specs.Staging.{Stages}
 use Rattle.cckd_layer.specs.Current.{IsInUse, IsReplaced, IsPlaced, Current}
 use Rattle.cckd_layer.specs.Stands.{nothing_staged}
-use Rattle.cckd_layer.specs.Mounted.{LayerState, reserve}
+use Rattle.cckd_layer.specs.Mounted.{LayerState, reserve, IsRoomy}
 use Rattle.cckd_layer.specs.Writes.{Agrees}
 
 -- ---- how many pieces pass a test
@@ -147,9 +147,9 @@ module _ (l : Layout) (plan : Plan) (file : List ℕ) (now : Current l nothing_s
       let r = pieces_bound 0 plan.pieces plan.size now.spans.laid in
       omega (arith, few, r, room)
 
--- a layer that agrees with its file, and has nothing staged and nothing Pending, has room for two more places
+-- so it is of a layer that agrees with its file: two more places can be added
 pub agrees_roomy : (s : LayerState) (w : World) → Agrees s w → s.tables.stages ≡ nothing_staged → counted is_pending s.plan.pieces ≡ 0
-    → reserve s.tables.layout ≤ s.plan.spare + length s.plan.pieces → 4 ≤ s.plan.spare
+    → IsRoomy s.tables s.plan → 4 ≤ s.plan.spare
 agrees_roomy s w agrees none still room =
     let now : Current s.tables.layout nothing_staged [] s.plan (file_of w s.slot) = subst (λ (x : Stages). Current s.tables.layout x [] s.plan (file_of w s.slot)) none agrees.stands.now in
     let r = spare_bound s.tables.layout s.plan (file_of w s.slot) now room in
