@@ -30,14 +30,6 @@ none_counted test (p ∷ ps) none =
     let z = ap one (false_from_ne_true (test p) (none p (inl refl))) in
     omega (arith, r, z)
 
--- and no piece passes it where none is counted
-counted_none : (test : Piece → Bool) (ps : List Piece) (p : Piece) → counted test ps ≡ 0 → Has p ps → test p ≡ true → ⊥
-counted_none test [] p none h t = h
-counted_none test (q ∷ ps) p none h t = elim h [
-  | inl same ↦ let z = ap one (ap test same ∙ t) in omega (arith, z, none)
-  | inr m ↦ counted_none test ps p (omega (arith, none)) m t
-]
-
 -- at most one stands at a place
 one_counted : (pos at : ℕ) (ps : List Piece) (end : ℕ) → IsLaid at ps end → counted (λ p. p.pos == pos) ps ≤ 1
 one_counted pos at [] end laid = omega arith
