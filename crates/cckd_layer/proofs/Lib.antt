@@ -26,6 +26,7 @@ pub mod RemarkLemmas
 pub mod RemarkedLemmas
 pub mod ReservedLemmas
 pub mod RoleLemmas
+pub mod RoomLemmas
 pub mod SettledLemmas
 pub mod SpaceLemmas
 pub mod SpanLemmas

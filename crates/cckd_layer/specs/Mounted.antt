@@ -60,6 +60,10 @@ CanRead s = OfFile s.slot (ReadsFrom s.tables)
 abbrev pub reserve : Layout → ℕ
 reserve l = 2 * (track_count l.geo + l.groups + 1024) + 1
 
+-- there is room for so many pieces: those there are, and those that may still be added
+abbrev pub IsRoomy : TableView → Plan → Type 0
+IsRoomy tables plan = reserve tables.layout ≤ plan.spare + length plan.pieces
+
 -- Nothing is staged, kept in memory or changed yet. The pieces cover the file, the header area is one of them, and there is
 -- room for as many as a layer may have.
 pub record IsFresh (slot limit : ℕ) (s : LayerState) : Type 0 where
@@ -71,7 +75,7 @@ pub record IsFresh (slot limit : ℕ) (s : LayerState) : Type 0 where
   pub hardened : s.hardened ≡ true
   pub broken : s.broken ≡ false
   pub sound : IsSoundPlan s.plan
-  pub room : reserve s.tables.layout ≤ s.plan.spare + length s.plan.pieces
+  pub room : IsRoomy s.tables s.plan
   pub area : Has (used_piece (header_space s.tables.layout.groups)) s.plan.pieces
 
 -- the layer is that of a sound image: its layout, its headers, its words, and the spaces that its survey finds in use

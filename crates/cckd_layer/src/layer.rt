@@ -26,17 +26,20 @@ pub struct Layer<U> {
 }
 
 impl<U> Model for Layer<U> {
-    ghost use Rattle.cckd_layer.specs.Mounted.{LayerState};
+    ghost use Rattle.cckd_layer.specs.Mounted.{LayerState, IsRoomy};
 
     ghost Value = { LayerState };
 
     ghost view = { λ s. record { slot = s.slot; header = s.header; tables = s.tables; plan = s.space; marked = s.marked; hardened = s.hardened; broken = s.broken } };
+
+    ghost invariant = { λ s. IsRoomy s.tables s.space };
 }
 
 impl<U> Layer<U> {
     ghost use Rattle.std.specs.Prelude.{◌≡◌, ◌↔◌, IsTrue};
     ghost use Rattle.cckd_base.specs.Geometry.{IsLayout};
     ghost use Rattle.cckd_tables.specs.Cached.{IsCached};
+    ghost use Rattle.cckd_layer.specs.Mounted.{IsRoomy};
 
     /// How the image lays its tracks out.
     pub fn layout(&self) -> Layout
@@ -46,9 +49,10 @@ impl<U> Layer<U> {
         self.tables.layout()
     }
 
-    /// Which bytes of the file are in use.
+    /// Which bytes of the file are in use. There is always room for as many pieces as a layer may have.
     pub fn space(&self) -> &Space
-        ensures { result.now ≡ self.now.plan }
+        ensures value { result.now ≡ self.now.plan }
+        ensures roomy { IsRoomy self.now.tables result.now }
     {
         &self.space
     }
