@@ -11,6 +11,7 @@ pub mod CountLemmas
 pub mod GlanceLemmas
 pub mod CurrentLemmas
 pub mod FillLemmas
+pub mod FinalLemmas
 pub mod FoundLemmas
 pub mod HeadLemmas
 pub mod MarkLemmas
