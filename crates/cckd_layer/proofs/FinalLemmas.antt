@@ -96,7 +96,7 @@ ends_with l plan file c = elim c.spans.ends [
   | inr piece ↦ let named = c.accounts.reserved.named (reserved_piece piece.0 piece.1) piece.2 refl in absurd (not_placed named.0 named.1)
 ]
 
-current_of : (s : LayerState) (w : World) → s.tables.stages ≡ nothing_staged → Agrees s w → Current s.tables.layout nothing_staged [] s.plan (file_of w s.slot)
+pub current_of : (s : LayerState) (w : World) → s.tables.stages ≡ nothing_staged → Agrees s w → Current s.tables.layout nothing_staged [] s.plan (file_of w s.slot)
 current_of s w empty a = subst (λ (st : Stages). Current s.tables.layout st [] s.plan (file_of w s.slot)) empty a.stands.now
 
 -- A layer that has nothing staged agrees with its file once that is closed, with the same map.

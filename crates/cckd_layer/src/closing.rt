@@ -10,7 +10,8 @@ ghost use Rattle.cckd_tables.specs.Device.{CountsDevice};
 ghost use Rattle.cckd_layer.specs.Changes.{IsChained};
 ghost use Rattle.cckd_layer.specs.Marks.{WritesOrSyncs};
 ghost use Rattle.cckd_layer.specs.Mounted.{CanRead};
-ghost use Rattle.cckd_layer.specs.Writes.{KeepsMap, StopsWithin, StopHolds, IsSettled, IsSameFile, IsOutside, CountsLayer, closed_layer, failed_by, is_broken_by};
+ghost use Rattle.cckd_layer.specs.Writes.{KeepsMap, StopsWithin, StopHolds, StaysClosed, Agrees, IsSettled, IsSameFile, IsOutside, CountsLayer, closed_layer, failed_by, is_broken_by};
+ghost use Rattle.cckd_layer.specs.Closed.{IsClosed};
 ghost use Rattle.cckd_layer.specs.Chain.{chained, roomy_from, closed_second, closed_header, IsClosingAs, IsClosedFrom};
 
 use crate::chaining::put_chain;
@@ -84,6 +85,8 @@ impl<U: Unit> Layer<U> {
         requires settled { IsSettled self.old }
         requires hardened { self.old.hardened ≡ true }
         ensures closes { OnOk result (self.new ≡ closed_layer self.old) }
+        ensures closed { Tells (seen T.Shows stage.old) → Agrees self.old (seen T.Shows stage.old).world
+            → OnOk result (IsClosed self.old.tables.layout (file_of (seen T.Shows stage.new).world self.old.slot)) }
         ensures map { OnOk result (KeepsMap U.null_bytes self.old self.new (seen T.Shows stage.old) (seen T.Shows stage.new)) }
         ensures failed { IfErr result (λ fault. self.new ≡ failed_by fault self.old) }
         ensures kind { IfErr result WritesOrSyncs }
@@ -111,7 +114,9 @@ impl<U: Unit> Layer<U> {
         requires whole { self.old.broken ≡ false }
         requires can_read { CanRead self.old (seen T.Shows stage.old) }
 
-        // At Ok a stop leaves exactly the layer's map.
+        // At Ok the file of a layer that was changed is a closed image; and a stop leaves exactly the layer's map.
+        ensures closed { Tells (seen T.Shows stage.old) → Agrees self.old (seen T.Shows stage.old).world → self.old.marked ≡ true
+            → OnOk result (StaysClosed self.old.tables.layout self.old.slot (seen T.Shows stage.new).world) }
         ensures unmarked { OnOk result (self.new.marked ≡ false) }
         ensures hardened { OnOk result (self.new.hardened ≡ true) }
         ensures holds { OnOk result (StopHolds U.null_bytes self.old (seen T.Shows stage.old) (seen T.Shows stage.new)) }
