@@ -13,11 +13,12 @@ use Rattle.cckd_tables.specs.Looking.{HasAlignedTable, word_of, with_cached}
 use Rattle.cckd_layer.specs.Held.{NullBytes}
 use Rattle.cckd_layer.specs.Stands.{Stands}
 use Rattle.cckd_layer.specs.Mounted.{LayerState, with_tables}
+use Rattle.cckd_base.specs.declared.space.Full.{Full}
 use Rattle.cckd_base.specs.declared.layer_fault.LayerFault.{LayerFault}
 use Rattle.cckd_base.specs.declared.layer_fault.LayerFault.TheVariants as fault
 use Rattle.cckd_layer.specs.declared.preparing.Room.{Room}
-use Rattle.cckd_layer.specs.Preparing.{HasNoneToFree, WantsTable, IsDenial, IsDeniedFor, IsNoRoomIn}
-use Rattle.cckd_layer.specs.Writes.{Agrees, with_plan, AgreesWith, AgreesAgainWith, KeepsMapWith, entry_now, map_of, claimed_view}
+use Rattle.cckd_layer.specs.Preparing.{HasNoneToFree, WantsTable, IsDenial, IsDeniedFor, IsNoRoomIn, FindsRoom}
+use Rattle.cckd_layer.specs.Writes.{Agrees, KeepsMap, IsSameFile, IsOutside, with_plan, AgreesWith, AgreesAgainWith, KeepsMapWith, entry_now, map_of, claimed_view}
 
 -- a word at a place at a multiple of 8 is that of a group that has, or gets, an aligned table
 pub word_has : (v : TableView) (g : ℕ) → IsPlace (word_of v g) → word_of v g % 8 ≡ 0 → HasAlignedTable v g
@@ -94,12 +95,44 @@ denied_lacks s next old new t need (Err (fault.Full full)) rest stays none denie
       tried = s.plan;
       agrees = plan_back s next old.world new.world rest (stays told) a;
       none = none;
-      lacks = inl (d.0, record {
+      wanted = d.0;
+      wants = record {
         new = λ e has. d.1.new e (subst (λ (v : TableView). HasAlignedTable v (t / 256)) tables has);
         old = λ e. subst (λ (v : TableView). HasAlignedTable v (t / 256)) (sym tables) (d.1.old e);
-      }, d.2);
+      };
+      lacks = d.2;
     }
 denied_lacks s next old new t need (Err (fault.Track why)) rest stays none denied kind = absurd kind
 denied_lacks s next old new t need (Err fault.ReadFault) rest stays none denied kind = λ told a. tt
 denied_lacks s next old new t need (Err fault.WriteFault) rest stays none denied kind = absurd kind
 denied_lacks s next old new t need (Err fault.SyncFault) rest stays none denied kind = absurd kind
+
+-- where there is room, no try is denied
+pub denied_finds : (s : LayerState) (t : ℕ) (need : Option ℕ) (full : Full) → FindsRoom s t need → IsDeniedFor s t need (fault.Full full) → ⊥
+denied_finds s t need full finds d = finds d.0 full d.1 d.2
+
+-- other pieces leave the file that the layer is of
+pub plan_same : (s next : LayerState) → next ≡ with_plan s next.plan → next.plan.limit ≡ s.plan.limit → IsSameFile s next
+plan_same s next rest limit = record { slot = ap (λ (x : LayerState). x.slot) rest; layout = ap (λ (x : LayerState). x.tables.layout) rest; limit = limit }
+
+-- a hardening that a call that reads has ended keeps the map
+pub kept_unread : (null : NullBytes) (s m h : LayerState) (a b d : Seen) (why : LayerFault) → (why ≡ fault.ReadFault → (h ≡ m) × Stays b d) → IsOutside why → (Tells a → Tells b) → KeepsMap null s m a b
+    → IsDenial why → KeepsMap null s h a d
+kept_unread null s m h a b d (fault.Full full) read outside tells map denial = absurd outside
+kept_unread null s m h a b d (fault.Track found) read outside tells map denial = absurd outside
+kept_unread null s m h a b d fault.ReadFault read outside tells map denial = λ told agrees.
+    let k = map told agrees in
+    let r = read refl in
+    subst (λ (x : LayerState). AgreesAgainWith [] null s x a d) (sym r.0)
+    (subst (λ (w : World). AgreesAgainWith [] null s m a (record d { world = w })) (sym (r.1 (tells told))) (record { agrees = k.agrees; entries = k.entries; same = k.same }))
+kept_unread null s m h a b d fault.WriteFault read outside tells map denial = absurd denial
+kept_unread null s m h a b d fault.SyncFault read outside tells map denial = absurd denial
+
+-- what a try for places gave up for keeps the map, where nothing waits to be freed any more
+pub hardened_full : (s m h n : LayerState) (a b d e : Seen) (t : ℕ) (need : Option ℕ) (r : Result Room LayerFault) (null : NullBytes) → (Tells a → Tells b) → (Tells b → Tells d) → KeepsMap null s m a b → KeepsMap null m h b d
+    → IfErr r (IsNoRoomIn h n d e t need) → IfErr r (IsNoRoomIn s n a e t need)
+hardened_full s m h n a b d e t need (Ok room) null first second map again full = tt
+hardened_full s m h n a b d e t need (Err why) null first second map again full = λ told agrees.
+    let k = map told agrees in
+    let j = again (first told) k.agrees in
+    full (second (first told)) j.agrees

@@ -1,5 +1,5 @@
 -- Acts of a layer that has claimed places, one after the other.
-use Rattle.std.proofs.Common.{◌≡◌, ◌⊎◌, ◌<◌, ℕ, List, [], Option, IsSome, None, refl, sym, ◌∙◌, ap, subst}
+use Rattle.std.proofs.Common.{◌≡◌, ◌⊎◌, ◌<◌, ℕ, List, [], Option, IsSome, Some, None, Result, Ok, Err, IfOk, IfErr, OnErr, refl, sym, ◌∙◌, ap, subst}
 use Rattle.cckd_shelf.specs.Outcomes.{EachOutcome, AtEach}
 use Rattle.cckd_shelf.specs.Seen.{Seen, Tells, Stays}
 use Rattle.cckd_shelf.specs.Frame.{OnlyIn}
@@ -14,9 +14,10 @@ use Rattle.cckd_space.specs.Plan.{Plan}
 use Rattle.cckd_tables.specs.declared.device.Device.{Device}
 use Rattle.cckd_tables.specs.declared.device.Device.TheVariants as device
 use Rattle.cckd_layer.specs.Held.{NullBytes, Tracks, Later, IsLater, AreSame, LiesWithin, Keeps}
+use Rattle.cckd_base.specs.declared.layer_fault.LayerFault.{LayerFault}
 use Rattle.cckd_layer.specs.Mounted.{LayerState}
 use Rattle.cckd_layer.specs.Acts.{MayGiveBack}
-use Rattle.cckd_layer.specs.Writes.{AgreesWith, AgreesAgainWith, KeepsMapWith, StopsWithin, StopsWithinWith, IsSameLayer, IsSameFile, IsAct, map_of, failed_by}
+use Rattle.cckd_layer.specs.Writes.{AgreesWith, AgreesAgainWith, KeepsMap, KeepsMapWith, StopsWithin, StopsWithinWith, IsSameLayer, IsSameFile, IsAct, map_of, failed_by}
 
 pub same_file_twice : (a b c : LayerState) → IsSameFile a b → IsSameFile b c → IsSameFile a c
 same_file_twice a b c h k = record { slot = k.slot ∙ h.slot; layout = k.layout ∙ h.layout; limit = k.limit ∙ h.limit }
@@ -85,3 +86,22 @@ act_then before mid null s m n a b c tells h map k = record {
       (at_end Q a.world.events b.world.events first));
   others = only_twice s.slot a b c tells h.others (subst (λ (n : ℕ). OnlyIn n b c) h.same.slot k.others);
 }
+
+-- a hardening
+pub act_hardened : (null : NullBytes) (s next : LayerState) (old new : Seen) → IsSameLayer s next → StopsWithin null s old new → OnlyIn s.slot old new → IsAct [] null s next old new
+act_hardened null s next old new same stopped others = record { same = same_file s next same; stopped = stopped; others = others }
+
+-- what keeps the map behind acts that did, by what comes of it
+pub map_ok : {A : Type 0} (claims : A → List Extent) (null : NullBytes) (s m n : LayerState) (a b c : Seen) (r : Result A LayerFault) → (Tells a → Tells b) → IsSameFile s m → KeepsMap null s m a b
+    → IfOk r (λ x. KeepsMapWith [] (claims x) null m n b c) → IfOk r (λ x. KeepsMapWith [] (claims x) null s n a c)
+map_ok claims null s m n a b c (Ok x) tells same h k = maps_then [] [] (claims x) null s m n a b c tells same h k
+map_ok claims null s m n a b c (Err why) tells same h k = tt
+
+pub map_err : {A : Type 0} (null : NullBytes) (s m n : LayerState) (a b c : Seen) (r : Result A LayerFault) → (Tells a → Tells b) → IsSameFile s m → KeepsMap null s m a b → OnErr r (KeepsMap null m n b c) → OnErr r (KeepsMap null s n a c)
+map_err null s m n a b c (Ok x) tells same h k = tt
+map_err null s m n a b c (Err why) tells same h k = maps_then [] [] [] null s m n a b c tells same h k
+
+-- what holds at each fault holds at those of a kind
+pub err_for : {A : Type 0} (P : Type 0) (Q : LayerFault → Type 0) (r : Result A LayerFault) → OnErr r P → IfErr r (λ why. Q why → P)
+err_for P Q (Ok x) h = tt
+err_for P Q (Err why) h = λ q. h

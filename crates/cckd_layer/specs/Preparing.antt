@@ -36,12 +36,14 @@ pub record SuitsFile (s : LayerState) (t : ℕ) (room : Room) (w : World) : Type
   pub length_is : IsStaged t s.tables.stages → room.len ≡ length (file_of w s.slot)
 
 -- A write has no room: its places aren't there on pieces with which the layer agrees with its file, and of which none waits
--- to be freed; or so many pieces are in use that no more can be kept.
+-- to be freed.
 pub record LacksRoom (s : LayerState) (w : World) (t : ℕ) (need : Option ℕ) (full : Full) : Type 0 where
   pub tried : Plan
   pub agrees : Agrees (with_plan s tried) w
   pub none : HasNoneToFree tried
-  pub lacks : ((wanted : Bool) × WantsTable s t wanted × HaveNoPlaces wanted need tried full) ⊎ (tried.spare < 4)
+  pub wanted : Bool
+  pub wants : WantsTable s t wanted
+  pub lacks : HaveNoPlaces wanted need tried full
 
 -- why a write isn't given its places: no room, or a call failed
 abbrev pub IsNoRoom : LayerState → World → ℕ → Option ℕ → LayerFault → Type 0

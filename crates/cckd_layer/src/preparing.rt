@@ -9,9 +9,9 @@ ghost use Rattle.cckd_base.specs.Image.{IsPlace};
 ghost use Rattle.cckd_space.specs.Plan.{IsNeed};
 ghost use Rattle.cckd_tables.specs.Stages.{free_count};
 ghost use Rattle.cckd_tables.specs.Looking.{HasAlignedTable, with_cached};
-ghost use Rattle.cckd_layer.specs.Mounted.{CanRead, with_tables};
+ghost use Rattle.cckd_layer.specs.Mounted.{CanRead, IsRoomy, with_tables};
 ghost use Rattle.cckd_layer.specs.Reads.{OfFile, OnlyReads, LooksUp, IsAtHand};
-ghost use Rattle.cckd_layer.specs.Writes.{Agrees, AgreesWith, AgreesIn, KeepsMap, KeepsMapWith, IsAct, CountsLayer, HaveNoPlaces, entry_now, claims_of, is_broken_by, with_plan};
+ghost use Rattle.cckd_layer.specs.Writes.{Agrees, AgreesWith, AgreesIn, KeepsMap, KeepsMapWith, IsAct, IsSettled, CountsLayer, HaveNoPlaces, entry_now, claims_of, is_broken_by, with_plan};
 ghost use Rattle.cckd_layer.specs.Preparing.{HasNoneToFree, IsRoom, SuitsFile, IsDenial, IsDeniedFor, IsNoRoomIn, IsUnplaced, IsUnwritten, IsUntouched, FindsRoom};
 
 use crate::claiming::Places;
@@ -145,6 +145,7 @@ impl<U: Unit> Layer<U> {
     fn has_spare(&mut self) -> bool
         ensures answer { IsTrue result ↔ (4 ≤ self.old.plan.spare) }
         ensures same { self.new ≡ self.old }
+        ensures roomy { IsRoomy self.old.tables self.old.plan }
     {
         self.space.has_spare(PLACED)
     }
@@ -165,7 +166,7 @@ impl<U: Unit> Layer<U> {
             → IfOk result (λ room. SuitsFile self.new t.0 room (seen T.Shows stage.new).world) }
         ensures map { IfOk result (λ room. KeepsMapWith [] (claims_of need room.places) U.null_bytes self.old self.new (seen T.Shows stage.old) (seen T.Shows stage.new)) }
         ensures kept { OnErr result (KeepsMap U.null_bytes self.old self.new (seen T.Shows stage.old) (seen T.Shows stage.new)) }
-        ensures full { HasNoneToFree self.old.plan → IfErr result (IsNoRoomIn self.old self.new (seen T.Shows stage.old) (seen T.Shows stage.new) t.0 need) }
+        ensures full { IsSettled self.old → IfErr result (IsNoRoomIn self.old self.new (seen T.Shows stage.old) (seen T.Shows stage.new) t.0 need) }
         ensures kind { IfErr result IsDenial }
         ensures reads { OnlyReads result (seen T.Shows stage.old) (seen T.Shows stage.new) }
     {
@@ -259,10 +260,16 @@ impl<U: Unit> Layer<U> {
         ensures finds { Tells (seen T.Shows stage.old) → Agrees self.old (seen T.Shows stage.old).world → FindsRoom self.old t.0 need
             → 4 ≤ self.old.plan.spare → IsUntouched self.old self.new (seen T.Shows stage.old) (seen T.Shows stage.new) }
     {
-        if let Some(room) = self.place_at_once(stage, t, need)? {
+        let placed = match self.place_at_once(stage, t, need) {
+            Ok(placed) => placed,
+            Err(fault) => return Err(fault),
+        };
+        if let Some(room) = placed {
             return Ok(room);
         }
-        self.harden_anew(stage)?;
+        if let Err(fault) = self.harden_anew(stage) {
+            return Err(fault);
+        }
         self.place_hardened(stage, t, need)
     }
 }

@@ -1,0 +1,91 @@
+use Rattle.std.proofs.Common.{[], ◌++◌, Option, None, Result, Ok, Err, IfOk, IfErr, OnErr, refl, sym, subst}
+use Rattle.cckd_shelf.specs.Seen.{seen}
+use Rattle.cckd_base.specs.declared.layer_fault.LayerFault.{LayerFault}
+use Rattle.cckd_layer.specs.declared.preparing.Room.{Room}
+use Rattle.cckd_layer.specs.Writes.{IsAct, KeepsMap, KeepsMapWith, claims_of}
+use Rattle.cckd_layer.specs.Preparing.{IsDenial, IsUnplaced}
+use Rattle.cckd_layer.proofs.ThenLemmas.{same_file, same_file_twice, act_still, act_hardened, act_then, maps_then, map_ok, map_err, err_for}
+use Rattle.cckd_layer.proofs.PrepareLemmas.{plan_same, kept_unread, hardened_full}
+use Rattle.cckd_layer.proofs.layer.Layer.find_places.Goals as goal
+
+-- the first try did nothing to the outside, and where it gave nothing the map is as before
+pub returns-in-Err-harden_anew-clause-act : goal.returns-in-Err-harden_anew-clause-act
+returns-in-Err-harden_anew-clause-act g c =
+    let null = g.U.Unit.null_bytes in
+    let s = c.args.self.now in
+    let m = c.place_at_once.new.self in
+    let h = c.harden_anew.new.self in
+    let a = seen g.T.Shows c.args.stage.now in
+    let b = seen g.T.Shows c.place_at_once.new.stage in
+    let d = seen g.T.Shows c.harden_anew.new.stage in
+    let first = act_still [] null s m a b (plan_same s m c.place_at_once.ensures.rest c.place_at_once.ensures.limit) c.place_at_once.ensures.reads.kept in
+    let kept = c.in-Ok.ensures.kept (subst (λ (o : Option Room). IsUnplaced (Ok o)) (sym c.in_default.is) tt) in
+    act_then [] [] null s m h a b d (λ told. told) first kept (act_hardened null m h b d c.harden_anew.ensures.same c.harden_anew.ensures.stopped c.harden_anew.ensures.others)
+
+pub returns-clause-act : goal.returns-clause-act
+returns-clause-act g c =
+    let null = g.U.Unit.null_bytes in
+    let s = c.args.self.now in
+    let m = c.place_at_once.new.self in
+    let h = c.harden_anew.new.self in
+    let n = c.place_hardened.new.self in
+    let a = seen g.T.Shows c.args.stage.now in
+    let b = seen g.T.Shows c.place_at_once.new.stage in
+    let d = seen g.T.Shows c.harden_anew.new.stage in
+    let e = seen g.T.Shows c.place_hardened.new.stage in
+    let first = act_still [] null s m a b (plan_same s m c.place_at_once.ensures.rest c.place_at_once.ensures.limit) c.place_at_once.ensures.reads.kept in
+    let kept = c.in-Ok.ensures.kept (subst (λ (o : Option Room). IsUnplaced (Ok o)) (sym c.in_default.is) tt) in
+    let second = act_hardened null m h b d c.harden_anew.ensures.same c.harden_anew.ensures.stopped c.harden_anew.ensures.others in
+    let last = act_still [] null h n d e (plan_same h n c.place_hardened.ensures.rest c.place_hardened.ensures.limit) c.place_hardened.ensures.reads.kept in
+    let one = act_then [] [] null s m h a b d (λ told. told) first kept second in
+    act_then [] [] null s h n a d e (λ told. told) one
+    (maps_then [] [] [] null s m h a b d (λ told. told) first.same kept c.in_default-harden_anew.ensures.map) last
+
+pub returns-clause-map : goal.returns-clause-map
+returns-clause-map g c =
+    let null = g.U.Unit.null_bytes in
+    let s = c.args.self.now in
+    let m = c.place_at_once.new.self in
+    let h = c.harden_anew.new.self in
+    let n = c.place_hardened.new.self in
+    let a = seen g.T.Shows c.args.stage.now in
+    let b = seen g.T.Shows c.place_at_once.new.stage in
+    let d = seen g.T.Shows c.harden_anew.new.stage in
+    let e = seen g.T.Shows c.place_hardened.new.stage in
+    let same = plan_same s m c.place_at_once.ensures.rest c.place_at_once.ensures.limit in
+    let kept = c.in-Ok.ensures.kept (subst (λ (o : Option Room). IsUnplaced (Ok o)) (sym c.in_default.is) tt) in
+    map_ok (λ (room : Room). claims_of c.args.need room.places) null s h n a d e c.place_hardened.result (λ told. told) (same_file_twice s m h same (same_file m h c.harden_anew.ensures.same))
+    (maps_then [] [] [] null s m h a b d (λ told. told) same kept c.in_default-harden_anew.ensures.map) c.place_hardened.ensures.map
+
+pub returns-clause-kept : goal.returns-clause-kept
+returns-clause-kept g c =
+    let null = g.U.Unit.null_bytes in
+    let s = c.args.self.now in
+    let m = c.place_at_once.new.self in
+    let h = c.harden_anew.new.self in
+    let n = c.place_hardened.new.self in
+    let a = seen g.T.Shows c.args.stage.now in
+    let b = seen g.T.Shows c.place_at_once.new.stage in
+    let d = seen g.T.Shows c.harden_anew.new.stage in
+    let e = seen g.T.Shows c.place_hardened.new.stage in
+    let same = plan_same s m c.place_at_once.ensures.rest c.place_at_once.ensures.limit in
+    let kept = c.in-Ok.ensures.kept (subst (λ (o : Option Room). IsUnplaced (Ok o)) (sym c.in_default.is) tt) in
+    err_for _ IsDenial c.place_hardened.result
+    (map_err null s h n a d e c.place_hardened.result (λ told. told) (same_file_twice s m h same (same_file m h c.harden_anew.ensures.same))
+    (maps_then [] [] [] null s m h a b d (λ told. told) same kept c.in_default-harden_anew.ensures.map) c.place_hardened.ensures.kept)
+
+pub returns-clause-full : goal.returns-clause-full
+returns-clause-full g c =
+    let null = g.U.Unit.null_bytes in
+    let s = c.args.self.now in
+    let m = c.place_at_once.new.self in
+    let h = c.harden_anew.new.self in
+    let n = c.place_hardened.new.self in
+    let a = seen g.T.Shows c.args.stage.now in
+    let b = seen g.T.Shows c.place_at_once.new.stage in
+    let d = seen g.T.Shows c.harden_anew.new.stage in
+    let e = seen g.T.Shows c.place_hardened.new.stage in
+    let same = plan_same s m c.place_at_once.ensures.rest c.place_at_once.ensures.limit in
+    let kept = c.in-Ok.ensures.kept (subst (λ (o : Option Room). IsUnplaced (Ok o)) (sym c.in_default.is) tt) in
+    hardened_full s m h n a b d e c.args.t.0 c.args.need c.place_hardened.result null (λ told. told) (λ told. told) kept c.in_default-harden_anew.ensures.map
+    (c.place_hardened.ensures.full c.in_default-harden_anew.ensures.settled)
