@@ -8,7 +8,8 @@ use Rattle.cckd_base.specs.declared.geometry.Layout.{Layout}
 use Rattle.cckd_base.specs.declared.entry.L2Entry.{L2Entry}
 use Rattle.cckd_base.specs.declared.space.Extent.{Extent}
 use Rattle.cckd_base.specs.declared.space.Full.{Full}
-use Rattle.cckd_space.specs.Pieces.{largest}
+use Rattle.std.specs.Option.{option_map}
+use Rattle.cckd_space.specs.Pieces.{first, largest, aligned_up, has_room, end_place, used_end}
 use Rattle.cckd_base.specs.Entry.{word_at, entry_at, bytes_by_entry}
 use Rattle.cckd_base.specs.Image.{IsPlace}
 use Rattle.cckd_base.proofs.PlaceLemmas.{place_or_not}
@@ -32,7 +33,22 @@ use Rattle.cckd_layer.proofs.StagedLemmas.{Takes, stands_by, stands_word, stands
 use Rattle.cckd_layer.proofs.AccountLemmas.{placed_at, accounts_same, accounts_given, accounts_cut}
 use Rattle.cckd_layer.proofs.SpanLemmas.{KeepsHeld, keeps_twice, held_given, held_cut, spans_given}
 use Rattle.cckd_layer.proofs.StageLemmas.{new_owner}
-use Rattle.cckd_layer.proofs.ReservedLemmas.{free_of}
+use Rattle.cckd_layer.proofs.ReservedLemmas.{free_of, inside_of}
+
+up_aligned : (at : ℕ) → aligned_up at % 8 ≡ 0
+up_aligned at = omega arith
+
+-- a place stands at a multiple of 8
+pub place_aligned : (need : ℕ) (ps : List Piece) → place_of need ps % 8 ≡ 0
+place_aligned need ps = by (first (has_room need) ps) refl
+  where
+    by : (o : Option Piece) → first (has_room need) ps ≡ o → place_of need ps % 8 ≡ 0
+    by None e = subst (λ (p : ℕ). p % 8 ≡ 0) (sym (ap (λ (o : Option Piece). unwrap_or (option_map (λ (p : Piece). aligned_up p.pos) o) (end_place ps)) e)) (up_aligned (used_end ps))
+    by (Some p) e = subst (λ (p : ℕ). p % 8 ≡ 0) (sym (ap (λ (o : Option Piece). unwrap_or (option_map (λ (p : Piece). aligned_up p.pos) o) (end_place ps)) e)) (up_aligned p.pos)
+
+pub place_result : (need : ℕ) (ps : List Piece) (r : Result ℕ Full) → IfOk r (λ pos. pos ≡ place_of need ps) → IfOk r (λ pos. pos % 8 ≡ 0)
+place_result need ps (Ok pos) is = subst (λ (p : ℕ). p % 8 ≡ 0) (sym is) (place_aligned need ps)
+place_result need ps (Err full) is = tt
 
 -- a place was claimed, and nothing written
 pub claim_agrees : (claims : List Extent) (null : NullBytes) (s : LayerState) (plan : Plan) (need : ℕ) (w : Seen) → 0 < need → IsReserved need s.plan plan → IsSound plan → AgreesWith claims s w.world
@@ -78,16 +94,19 @@ word_plain : (v : TableView) (g : ℕ) → place_for g v.stages.words ≡ None �
 word_plain v g none = ap (λ (o : Option ℕ). unwrap_or o (slice_index v.words g)) none
 
 -- a new table is staged at a place that was claimed, and the group's old table leaves
-pub word_agrees : (claims : List Extent) (null : NullBytes) (s : LayerState) (plan : Plan) (g pos : ℕ) (w : Seen) → g < s.tables.layout.groups → IsPlace pos → pos % 8 ≡ 0 → place_for g s.tables.stages.words ≡ None
+pub word_agrees : (claims : List Extent) (null : NullBytes) (s : LayerState) (plan : Plan) (g pos : ℕ) (w : Seen) → g < s.tables.layout.groups → pos % 8 ≡ 0 → place_for g s.tables.stages.words ≡ None
     → Becomes s.plan plan (left_at (word_of s.tables g) s.plan.pieces) s.plan.size → IsSound plan → AgreesWith (claim pos 2048 ∷ claims) s w.world
     → AgreesAgainWith claims null s (record s { tables = with_stages s.tables (with_word (record { group = g; pos = pos }) s.tables.stages); plan = plan; hardened = false }) w w
-word_agrees claims null s plan g pos w low place aligned fresh b sound a =
+word_agrees claims null s plan g pos w low aligned fresh b sound a =
     let l = s.tables.layout in
     let file = file_of w.world s.slot in
     let v = claimed_view (claim pos 2048 ∷ claims) s in
     let n = with_word (record { group = g; pos = pos }) s.tables.stages in
     let st = stages_word g pos s.tables.stages in
     let free = free_of v s.slot w.world pos 2048 (omega arith) (inl refl) a.stands file (stands_sits v s.slot w.world a.stands).rests in
+    let end = inside_of v s.slot w.world pos 2048 (omega arith) (inl refl) a.stands in
+    let short = a.stands.now.spans.short in
+    let place : IsPlace pos = (λ zero. absurd (omega (arith, zero, free.area)), λ parent. absurd (omega (arith, parent, end, short))) in
     let word : word_of s.tables g ≡ word_at l file g = word_plain s.tables g fresh ∙ sym (a.are.words g low) in
     record {
       agrees = record {

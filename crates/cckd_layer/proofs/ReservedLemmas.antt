@@ -79,8 +79,8 @@ module _ (v : LayerView) (slot : ℕ) (w : World) (pos n : ℕ) (some : 0 < n) (
   there : Has (placed_piece (claim pos n)) v.plan.pieces
   there = h.now.accounts.reserved.there (claim pos n) (inr among)
 
-  inside : pos + n ≤ v.plan.size
-  inside = has_within 0 v.plan.pieces v.plan.size (placed_piece (claim pos n)) h.now.spans.laid there
+  pub inside_of : pos + n ≤ v.plan.size
+  inside_of = has_within 0 v.plan.pieces v.plan.size (placed_piece (claim pos n)) h.now.spans.laid there
 
   -- no space of a file that rests in the pieces is touched
   pub free_of : (f : List ℕ) → Rests v.layout v.plan.pieces f → IsFree v.layout pos n f
@@ -99,7 +99,7 @@ module _ (v : LayerView) (slot : ℕ) (w : World) (pos n : ℕ) (some : 0 < n) (
       let headers = headers_kept was f (omega (arith, s.whole.image.area)) fills.no_shorter (λ i low. fills.outside i (omega (arith, low, s.whole.image.area)) (inl (omega (arith, low, free.area)))) in
       let stays = free_write l was f pos n (headed_layout (identifiers_for l) l was s.whole.headed) s.whole.image free (record { outside = fills.outside; no_shorter = fills.no_shorter }) in
       record {
-        whole = record { headed = headed_kept (identifiers_for l) l was f headers fills.no_shorter (omega (arith, fills.no_longer, k, inside, h.now.spans.short)) s.whole.headed; image = stays.image };
+        whole = record { headed = headed_kept (identifiers_for l) l was f headers fills.no_shorter (omega (arith, fills.no_longer, k, inside_of, h.now.spans.short)) s.whole.headed; image = stays.image };
         stays = stays;
         headers = headers;
       }
@@ -135,7 +135,7 @@ stands_written v slot w after pos bytes some among h made =
     let now : file_of after slot ≡ file = now_wrote slot pos bytes w after made in
     let fills = write_fills pos bytes was file (write_made pos bytes was) in
     let whole = stays_of v slot w pos n some among h was file fills (stands_sits v slot w h) in
-    let size : length file ≤ v.plan.size = omega (arith, length_overlaid was pos bytes, inside v slot w pos n some among h, h.now.spans.covers) in
+    let size : length file ≤ v.plan.size = omega (arith, length_overlaid was pos bytes, inside_of v slot w pos n some among h, h.now.spans.covers) in
     let grown = current_grown v.layout v.stages v.claims v.plan was file (stands_layout v slot w h) (names_stay v.layout was file whole.stays) fills.no_shorter size h.now in
     let P : List ℕ → Type 0 = λ f. Sits v.layout v.plan.pieces f in
     let step : (old f : List ℕ) → P old → WriteLeaves pos bytes old f → StaysWhole v.layout old f = λ old f k leaves. stays_of v slot w pos n some among h old f (write_fills pos bytes old f leaves) k in

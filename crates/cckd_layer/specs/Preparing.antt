@@ -1,5 +1,5 @@
 -- What a write needs before it changes anything: room among what is staged, and places.
-use Rattle.std.specs.Prelude.{ℕ, ◌≡◌, ◌⊎◌, ◌<◌, ◌≤◌, ◌/◌, Bool, true, false, length, Option, Some, None, IsSome, Result, Ok, Err}
+use Rattle.std.specs.Prelude.{ℕ, ◌≡◌, ◌⊎◌, ◌<◌, ◌≤◌, ◌/◌, ◌%◌, Bool, true, false, length, Option, Some, None, IsSome, IfSome, Result, Ok, Err}
 use Rattle.std.specs.Option.{is_some}
 use Rattle.cckd_shelf.specs.World.{World, file_of}
 use Rattle.cckd_shelf.specs.Seen.{Seen, Tells, Stays}
@@ -25,8 +25,10 @@ pub record WantsTable (s : LayerState) (t : ℕ) (wanted : Bool) : Type 0 where
   pub new : wanted ≡ true → HasAlignedTable s.tables (t / 256) → ⊥
   pub old : wanted ≡ false → HasAlignedTable s.tables (t / 256)
 
--- the places of a write were given: where none is for a table, the group of its track has one; and one for what is stored
+-- The places of a write were given: one at a multiple of 8 for a table, or the group of its track has one; and one for what
+-- is stored.
 pub record IsRoom (s : LayerState) (t : ℕ) (need : Option ℕ) (room : Room) : Type 0 where
+  pub aligned : IfSome room.places.table (λ pos. pos % 8 ≡ 0)
   pub table : is_some room.places.table ≡ false → HasAlignedTable s.tables (t / 256)
   pub track : is_some room.places.track ≡ is_some need
 

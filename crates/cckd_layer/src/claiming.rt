@@ -6,7 +6,6 @@ ghost use Rattle.cckd_base.specs.declared.space.Extent.{Extent as Space_of};
 ghost use Rattle.cckd_shelf.specs.World.{file_of};
 ghost use Rattle.cckd_base.specs.Geometry.{track_count};
 ghost use Rattle.cckd_base.specs.Entry.{bytes_by_entry};
-ghost use Rattle.cckd_base.specs.Image.{IsPlace};
 ghost use Rattle.cckd_space.specs.Plan.{IsNeed, IsSound, place_of};
 ghost use Rattle.cckd_tables.specs.Staging.{IsStaged, IsMoved, place_for};
 ghost use Rattle.cckd_tables.specs.Stages.{free_count};
@@ -52,6 +51,7 @@ impl<U: Unit> Layer<U> {
         requires need { IsNeed need }
         requires spare { 2 ≤ self.old.plan.spare }
         ensures place { IfOk result (λ pos. pos ≡ place_of need self.old.plan.pieces) }
+        ensures aligned { IfOk result (λ pos. pos % 8 ≡ 0) }
         ensures reserved { OnOk result (IsReserved need self.old.plan self.new.plan) }
         ensures rest { self.new ≡ with_plan self.old self.new.plan }
         ensures limit { self.new.plan.limit ≡ self.old.plan.limit }
@@ -80,7 +80,7 @@ impl<U: Unit> Layer<U> {
     pub(crate) fn stage_table(&mut self, group: u32, pos: u32)
         requires group { group < self.old.tables.layout.groups }
         requires free { IsMoved group self.old.tables.stages ⊎ (0 < free_count self.old.tables.stages) }
-        requires place { IsPlace pos × (pos % 8 ≡ 0) }
+        requires place { pos % 8 ≡ 0 }
         ensures staged { self.new ≡ with_table group pos self.old self.new.plan }
         ensures table { HasAlignedTable self.new.tables group }
         ensures map { (claims : List Space_of) (w : Seen) → place_for group self.old.tables.stages.words ≡ None
@@ -118,6 +118,7 @@ impl<U: Unit> Layer<U> {
         ensures limit { self.new.plan.limit ≡ self.old.plan.limit }
         ensures map { (w : Seen) → IfOk result (λ place. KeepsMapWith [] (claim_of (Some 2048) place) U.null_bytes self.old self.new w w) }
         ensures wanted { IfOk result (λ place. is_some place ≡ wanted) }
+        ensures aligned { IfOk result (λ place. IfSome place (λ pos. pos % 8 ≡ 0)) }
         ensures granted { OnOk result (IsGranted (table_need wanted) self.old.plan self.new.plan) }
         ensures denied { IfErr result (IsDenied (table_need wanted) self.old.plan) }
         ensures same { OnErr result (self.new ≡ self.old) }
@@ -178,6 +179,7 @@ impl<U: Unit> Layer<U> {
         ensures rest { self.new ≡ with_plan self.old self.new.plan }
         ensures limit { self.new.plan.limit ≡ self.old.plan.limit }
         ensures table { IfOk result (λ places. is_some places.table ≡ wanted) }
+        ensures aligned { IfOk result (λ places. IfSome places.table (λ pos. pos % 8 ≡ 0)) }
         ensures track { IfOk result (λ places. is_some places.track ≡ is_some need) }
         ensures map { (w : Seen) → IfOk result (λ places. KeepsMapWith [] (claims_of need places) U.null_bytes self.old self.new w w) }
 

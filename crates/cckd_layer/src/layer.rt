@@ -22,17 +22,20 @@ pub struct Layer<U> {
     pub(crate) hardened: bool,
     /// A write, a cut or a sync failed.
     pub(crate) broken: bool,
+    /// Room for what is written, with its rounding zeros.
+    pub(crate) buffer: Vec<u8>,
     pub(crate) of: PhantomData<U>,
 }
 
 impl<U> Model for Layer<U> {
+    ghost use Rattle.std.specs.Prelude.{◌≡◌, length};
     ghost use Rattle.cckd_layer.specs.Mounted.{LayerState, IsRoomy};
 
     ghost Value = { LayerState };
 
     ghost view = { λ s. record { slot = s.slot; header = s.header; tables = s.tables; plan = s.space; marked = s.marked; hardened = s.hardened; broken = s.broken } };
 
-    ghost invariant = { λ s. IsRoomy s.tables s.space };
+    ghost invariant = { λ s. IsRoomy s.tables s.space × (length s.buffer.items ≡ 65536) };
 }
 
 impl<U> Layer<U> {

@@ -124,6 +124,9 @@ fn survey<T: Stage>(
     }
 }
 
+/// How many bytes are written in one call at most.
+const BUFFER: usize = 65536;
+
 /// How many pieces a layer has room for.
 fn reserve(l: &Layout) -> usize
     requires { IsLayout l.now }
@@ -222,6 +225,10 @@ fn open<U, T: Stage>(
         Ok(space) => space,
         Err(fault) => return Err(fault),
     };
+    let buffer = match vec![in alloc; 0; BUFFER] {
+        Ok(buffer) => buffer,
+        Err(_) => return Err(OpenFault::Memory),
+    };
     match load(alloc, stage, slot, &found.layout) {
         Ok(tables) => Ok(Layer {
             slot,
@@ -231,6 +238,7 @@ fn open<U, T: Stage>(
             marked: false,
             hardened: true,
             broken: false,
+            buffer,
             of: PhantomData,
         }),
         Err(fault) => Err(fault),

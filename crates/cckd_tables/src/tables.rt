@@ -2,7 +2,6 @@
 ghost use Rattle.std.specs.Prelude.{◌≡◌, ◌⊎◌, ◌↔◌, ◌+◌, ◌<◌, ◌/◌, ◌%◌, slice_get, IsTrue, IsOk, IfOk, OnOk, OnErr, Err};
 ghost use Rattle.cckd_base.specs.Geometry.{track_count, area_of, IsLayout};
 ghost use Rattle.cckd_base.specs.Entry.{group_entry};
-ghost use Rattle.cckd_base.specs.Image.{IsPlace};
 ghost use Rattle.cckd_shelf.specs.World.{IsSure, file_of};
 ghost use Rattle.cckd_shelf.specs.Seen.{seen, Tells, Stays, HasBytes, Called};
 ghost use Rattle.cckd_shelf.specs.Stops.{StopLeaves, StopsLeave};
@@ -173,7 +172,7 @@ impl Tables {
     pub fn stage_word(&mut self, group: u32, pos: u32)
         requires group { group < self.old.layout.groups }
         requires free { IsMoved group self.old.stages ⊎ (0 < free_count self.old.stages) }
-        requires place { IsPlace pos × (pos % 8 ≡ 0) }
+        requires place { pos % 8 ≡ 0 }
         ensures staged { self.new ≡ with_stages self.old (with_word (record { group = group; pos = pos }) self.old.stages) }
         ensures tables { IsTables self.new }
     {

@@ -30,4 +30,4 @@ returns-clause-map g c =
     let low = subst (λ (x : LayerState). group < x.tables.layout.groups) (sym c.self.view_is) c.requires.group in
     subst (λ (x : LayerState). (claims : List Extent) (w : Seen) → place_for group x.tables.stages.words ≡ None → KeepsMapWith (claim pos 2048 ∷ claims) claims g.U.Unit.null_bytes x (make c.stage_word.new.self) w w) c.self.view_is
     (subst (λ (t : TableView). (claims : List Extent) (w : Seen) → place_for group s.tables.stages.words ≡ None → KeepsMapWith (claim pos 2048 ∷ claims) claims g.U.Unit.null_bytes s (make t) w w) (sym c.stage_word.ensures.staged)
-    (λ claims w fresh told a. word_agrees claims g.U.Unit.null_bytes s c.leave_place.new.space group pos w low c.requires.place.0 c.requires.place.1 fresh becomes c.leave_place.ensures.sound a))
+    (λ claims w fresh told a. word_agrees claims g.U.Unit.null_bytes s c.leave_place.new.space group pos w low c.requires.place fresh becomes c.leave_place.ensures.sound a))
