@@ -12,3 +12,4 @@ pub mod Reads
 pub mod Mounted
 pub mod Writes
 pub mod Preparing
+pub mod Storing
