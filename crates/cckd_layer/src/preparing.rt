@@ -72,7 +72,7 @@ impl<U: Unit> Layer<U> {
     }
 
     /// Commits, where fewer than two more entries and words can be staged.
-    fn make_free_stages<T: Stage>(&mut self, stage: &mut T) -> Result<(), LayerFault>
+    pub(crate) fn make_free_stages<T: Stage>(&mut self, stage: &mut T) -> Result<(), LayerFault>
         requires whole { self.old.broken ≡ false }
         requires can_read { CanRead self.old (seen T.Shows stage.old) }
         ensures free { OnOk result (2 ≤ free_count self.new.tables.stages) }
@@ -93,7 +93,7 @@ impl<U: Unit> Layer<U> {
     }
 
     /// The entry of a track, the staged one or that of the file.
-    fn find_entry<T: Stage>(&mut self, stage: &mut T, t: Track) -> Result<L2Entry, LayerFault>
+    pub(crate) fn find_entry<T: Stage>(&mut self, stage: &mut T, t: Track) -> Result<L2Entry, LayerFault>
         requires track { t.0 < track_count self.old.tables.layout.geo }
         requires can_read { CanRead self.old (seen T.Shows stage.old) }
         ensures entry { Tells (seen T.Shows stage.old) → Agrees self.old (seen T.Shows stage.old).world

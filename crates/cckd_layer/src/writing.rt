@@ -16,8 +16,10 @@ ghost use Rattle.cckd_layer.specs.Current.{claim, IsAmong};
 ghost use Rattle.cckd_layer.specs.Writes.{Agrees, AgreesWith, KeepsMapWith, StopsWithinWith, IsAct, IsPut, CountsLayer, claim_of, entry_now, failed_by, is_broken_by};
 ghost use Rattle.cckd_layer.specs.Storing.{stored_as, padded};
 
+use crate::hardening::fault_of;
 use crate::layer::Layer;
-use cckd_base::Unit;
+use crate::preparing::Room;
+use cckd_base::{GROUP_TRACKS, L2Entry, LayerFault, Track, Unit};
 use cckd_shelf::Stage;
 use cckd_tables::Device;
 
@@ -98,5 +100,158 @@ impl<U: Unit> Layer<U> {
         };
         self.hardened = false;
         Ok(())
+    }
+}
+
+/// What is stored of a track.
+#[derive(Clone, Copy)]
+enum Stored {
+    /// Nothing but the format of its null track.
+    Null(u8),
+    /// So many bytes, and the size of their space.
+    Bytes { len: u16, size: u16 },
+}
+
+impl Stored {
+    /// How many bytes want a place.
+    fn need(self) -> Option<u32> {
+        match self {
+            Stored::Null(_) => None,
+            Stored::Bytes { size, .. } => Some(u32::from(size)),
+        }
+    }
+
+    /// The entry of a track of which this is stored.
+    fn entry(self, place: Option<u32>) -> L2Entry {
+        match self {
+            Stored::Null(format) => L2Entry {
+                pos: 0,
+                len: u16::from(format),
+                size: u16::from(format),
+            },
+            Stored::Bytes { len, size } => L2Entry {
+                pos: place.unwrap_or(0),
+                len,
+                size,
+            },
+        }
+    }
+}
+
+impl<U: Unit> Layer<U> {
+    /// The format of which bytes as they are stored are the null track.
+    fn null_format(&mut self, t: Track, form: Form, bytes: &[u8]) -> Option<u8> {
+        let layout = self.tables.layout();
+        fill::<U>(form, bytes, self.buffer.as_mut_slice());
+        let stored = &self.buffer[..bytes.len()];
+        if U::is_null(&layout.geo, t, 0, stored) {
+            return Some(0);
+        }
+        if U::is_null(&layout.geo, t, 1, stored) {
+            return Some(1);
+        }
+        None
+    }
+
+    /// What is stored of bytes that are given.
+    fn stored(&mut self, t: Track, form: Form, bytes: &[u8]) -> Stored {
+        match self.null_format(t, form, bytes) {
+            Some(format) => Stored::Null(format),
+            None => Stored::Bytes {
+                len: bytes.len() as u16,
+                size: padded_len(bytes.len()) as u16,
+            },
+        }
+    }
+
+    /// Marks the file, and writes bytes to their place, where they have one.
+    fn put_track<T: Stage>(
+        &mut self,
+        stage: &mut T,
+        place: Option<u32>,
+        form: Form,
+        bytes: &[u8],
+    ) -> Result<(), Device> {
+        if let Err(fault) = self.mark(stage) {
+            return Err(fault);
+        }
+        match place {
+            Some(pos) => self.put_reserved(stage, pos, form, bytes),
+            None => Ok(()),
+        }
+    }
+
+    /// Stages what was placed: the group's new table, where it gets one, and the track's entry.
+    fn stage_places(&mut self, t: Track, old: u32, table: Option<u32>, entry: L2Entry, len: u32) {
+        if let Some(pos) = table {
+            self.stage_table(t.0 / GROUP_TRACKS, pos);
+        }
+        self.stage_track(t, old, entry, len);
+    }
+
+    /// Writes a track to its place, and stages it.
+    fn write_placed<T: Stage>(
+        &mut self,
+        stage: &mut T,
+        t: Track,
+        old: u32,
+        room: Room,
+        stored: Stored,
+        form: Form,
+        bytes: &[u8],
+    ) -> Result<(), LayerFault> {
+        if let Err(fault) = self.put_track(stage, room.places.track, form, bytes) {
+            return Err(fault_of(fault));
+        }
+        let entry = stored.entry(room.places.track);
+        let len = room.len.max(entry.pos + u32::from(entry.size));
+        self.stage_places(t, old, room.places.table, entry, len);
+        Ok(())
+    }
+
+    /// Writes a track.
+    fn store<T: Stage>(
+        &mut self,
+        stage: &mut T,
+        t: Track,
+        form: Form,
+        bytes: &[u8],
+    ) -> Result<(), LayerFault> {
+        if let Err(fault) = self.make_free_stages(stage) {
+            return Err(fault);
+        }
+        let old = match self.find_entry(stage, t) {
+            Ok(entry) => entry.pos,
+            Err(fault) => return Err(fault),
+        };
+        let stored = self.stored(t, form, bytes);
+        match self.find_places(stage, t, stored.need()) {
+            Ok(room) => self.write_placed(stage, t, old, room, stored, form, bytes),
+            Err(fault) => Err(fault),
+        }
+    }
+
+    /// Writes bytes as those of a track, as they are.
+    pub fn write_stored<T: Stage>(
+        &mut self,
+        stage: &mut T,
+        t: Track,
+        bytes: &[u8],
+    ) -> Result<(), LayerFault> {
+        self.store(stage, t, Form::Given, bytes)
+    }
+
+    /// Writes what bytes say as a track, where they are one.
+    pub fn write<T: Stage>(
+        &mut self,
+        stage: &mut T,
+        t: Track,
+        bytes: &[u8],
+    ) -> Result<(), LayerFault> {
+        let layout = self.tables.layout();
+        if let Err(fault) = U::check(&layout.geo, t, bytes) {
+            return Err(LayerFault::Track(fault));
+        }
+        self.store(stage, t, Form::Value, bytes)
     }
 }
