@@ -37,6 +37,7 @@ pub mod StageLemmas
 pub mod StagedLemmas
 pub mod StandLemmas
 pub mod StepLemmas
+pub mod StoreLemmas
 pub mod SurveyedLemmas
 pub mod SwapLemmas
 pub mod ThenLemmas

@@ -1,8 +1,9 @@
 //! The writing of a track: its bytes go to a free place, and its entry is staged.
 ghost use Rattle.std.specs.Prelude.{◌≡◌, ◌⊎◌, ◌<◌, ◌≤◌, ◌+◌, ◌++◌, ◌/◌, ◌%◌, [], ℕ, List, length, take, IsSome, IsNone, IfSome, IfNone, IfOk, OnOk, IfErr, OnErr, Some, None, true, false};
 ghost use Rattle.std.specs.Option.{is_some};
-ghost use Rattle.cckd_shelf.specs.Seen.{Seen, seen, Tells, Stays, Makes};
-ghost use Rattle.cckd_shelf.specs.World.{World, file_of, after_write};
+ghost use Rattle.cckd_shelf.specs.Seen.{Seen, seen, Tells, Stays, Makes, MayMake, Fails};
+ghost use Rattle.cckd_shelf.specs.World.{World, file_of, after_write, after_torn};
+ghost use Rattle.cckd_shelf.specs.declared.fault.Kind.TheVariants.{Writes};
 ghost use Rattle.cckd_shelf.specs.Frame.{OnlyIn};
 ghost use Rattle.cckd_base.specs.declared.space.Extent.{Extent as Space_of};
 ghost use Rattle.cckd_base.specs.Geometry.{track_count, IsNullFormat};
@@ -20,7 +21,7 @@ use crate::hardening::fault_of;
 use crate::layer::Layer;
 use crate::preparing::Room;
 use cckd_base::{GROUP_TRACKS, L2Entry, LayerFault, Track, Unit};
-use cckd_shelf::Stage;
+use cckd_shelf::{Failed, Slot, Stage};
 use cckd_tables::Device;
 
 /// How the bytes that are given to a write are stored.
@@ -72,6 +73,23 @@ fn fill_padded<U: Unit>(form: Form, bytes: &[u8], buffer: &mut [u8]) -> usize
     count
 }
 
+/// Writes so many bytes from the front of a buffer to a place, in one call.
+fn write_front<T: Stage>(
+    stage: &mut T,
+    slot: Slot,
+    pos: u32,
+    buffer: &[u8],
+    count: usize,
+) -> Result<(), Failed>
+    requires room { count ≤ length buffer.now }
+    requires short { count ≤ 65536 }
+    ensures written { OnOk result (Makes (after_write slot pos (take count buffer.now)) (seen T.Shows stage.old) (seen T.Shows stage.new)) }
+    ensures torn { OnErr result (MayMake (after_torn slot pos (take count buffer.now)) (seen T.Shows stage.old) (seen T.Shows stage.new)) }
+    ensures fails { Fails Writes result (seen T.Shows stage.old) (seen T.Shows stage.new) }
+{
+    stage.write(slot, pos as u64, &buffer[..count])
+}
+
 impl<U: Unit> Layer<U> {
     /// Writes bytes to a place that is reserved for them, with zeros up to a multiple of 8, in one call.
     fn put_reserved<T: Stage>(
@@ -94,7 +112,8 @@ impl<U: Unit> Layer<U> {
         ensures others { OnlyIn self.old.slot (seen T.Shows stage.old) (seen T.Shows stage.new) }
     {
         let count = fill_padded::<U>(form, bytes, self.buffer.as_mut_slice());
-        let Ok(()) = stage.write(self.slot, pos as u64, &self.buffer[..count]) else {
+        let written = write_front(stage, self.slot, pos, self.buffer.as_slice(), count);
+        let Ok(()) = written else {
             self.fail(Device::Write);
             return Err(Device::Write);
         };
