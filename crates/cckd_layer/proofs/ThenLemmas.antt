@@ -1,5 +1,5 @@
 -- Acts of a layer that has claimed places, one after the other.
-use Rattle.std.proofs.Common.{◌≡◌, ◌⊎◌, ◌<◌, ℕ, List, [], Option, IsSome, Some, None, Result, Ok, Err, IfOk, IfErr, OnErr, refl, sym, ◌∙◌, ap, subst}
+use Rattle.std.proofs.Common.{◌≡◌, ◌⊎◌, ◌<◌, ℕ, List, [], Option, IsSome, Some, None, Result, Ok, Err, IfOk, IfErr, OnOk, OnErr, refl, sym, ◌∙◌, ap, subst, inl, inr}
 use Rattle.cckd_shelf.specs.Outcomes.{EachOutcome, AtEach}
 use Rattle.cckd_shelf.specs.Seen.{Seen, Tells, Stays}
 use Rattle.cckd_shelf.specs.Frame.{OnlyIn}
@@ -17,7 +17,7 @@ use Rattle.cckd_layer.specs.Held.{NullBytes, Tracks, Later, IsLater, AreSame, Li
 use Rattle.cckd_base.specs.declared.layer_fault.LayerFault.{LayerFault}
 use Rattle.cckd_layer.specs.Mounted.{LayerState}
 use Rattle.cckd_layer.specs.Acts.{MayGiveBack}
-use Rattle.cckd_layer.specs.Writes.{AgreesWith, AgreesAgainWith, KeepsMap, KeepsMapWith, StopsWithin, StopsWithinWith, IsSameLayer, IsSameFile, IsAct, map_of, failed_by}
+use Rattle.cckd_layer.specs.Writes.{AgreesWith, AgreesAgainWith, KeepsMap, KeepsMapWith, StopsWithin, StopsWithinWith, IsSameLayer, IsSameFile, IsAct, IsPut, map_of, failed_by, marked_layer}
 
 pub same_file_twice : (a b c : LayerState) → IsSameFile a b → IsSameFile b c → IsSameFile a c
 same_file_twice a b c h k = record { slot = k.slot ∙ h.slot; layout = k.layout ∙ h.layout; limit = k.limit ∙ h.limit }
@@ -105,3 +105,18 @@ map_err null s m n a b c (Err why) tells same h k = maps_then [] [] [] null s m 
 pub err_for : {A : Type 0} (P : Type 0) (Q : LayerFault → Type 0) (r : Result A LayerFault) → OnErr r P → IfErr r (λ why. Q why → P)
 err_for P Q (Ok x) h = tt
 err_for P Q (Err why) h = λ q. h
+
+-- what follows from what holds at Ok
+pub ok_then : {A E : Type 0} {P Q : Type 0} (r : Result A E) → (P → Q) → OnOk r P → OnOk r Q
+ok_then (Ok x) f p = f p
+ok_then (Err why) f p = tt
+
+-- the mark leaves the file that a layer is of
+pub same_marked : (s m : LayerState) → (m ≡ s) ⊎ (m ≡ marked_layer s) → IsSameFile s m
+same_marked s m (inl same) = record { slot = ap (λ (x : LayerState). x.slot) same; layout = ap (λ (x : LayerState). x.tables.layout) same; limit = ap (λ (x : LayerState). x.plan.limit) same }
+same_marked s m (inr marked) = record { slot = ap (λ (x : LayerState). x.slot) marked; layout = ap (λ (x : LayerState). x.tables.layout) marked; limit = ap (λ (x : LayerState). x.plan.limit) marked }
+
+-- so do bytes that are put, or weren't
+pub same_put : (s m : LayerState) (r : Result (Unit {0}) Device) → OnOk r (IsPut s m) → IfErr r (λ fault. (fault ≡ device.Write) × (m ≡ failed_by device.Write s)) → IsSameFile s m
+same_put s m (Ok done) put failed = record { slot = ap (λ (x : LayerState). x.slot) put; layout = ap (λ (x : LayerState). x.tables.layout) put; limit = ap (λ (x : LayerState). x.plan.limit) put }
+same_put s m (Err fault) put failed = record { slot = ap (λ (x : LayerState). x.slot) failed.1; layout = ap (λ (x : LayerState). x.tables.layout) failed.1; limit = ap (λ (x : LayerState). x.plan.limit) failed.1 }

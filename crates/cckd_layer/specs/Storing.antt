@@ -1,8 +1,25 @@
 -- How the bytes that are given to a write are stored.
-use Rattle.std.specs.Prelude.{ℕ, ◌-◌, List, ◌++◌, length, replicate}
+use Rattle.std.specs.Prelude.{ℕ, ◌≡◌, ◌-◌, ◌+◌, ◌<◌, ◌≤◌, max, List, ◌++◌, length, replicate, Bool, true, false, Option, Some, None, Result, Ok, Err}
+use Rattle.std.specs.Option.{unwrap_or}
+use Rattle.cckd_base.specs.declared.geometry.Geometry.{Geometry}
+use Rattle.cckd_base.specs.declared.geometry.Layout.{Layout}
+use Rattle.cckd_base.specs.declared.entry.L2Entry.{L2Entry}
+use Rattle.cckd_base.specs.Geometry.{track_count, IsNullFormat}
+use Rattle.cckd_base.specs.Numbers.{bytes_at}
+use Rattle.cckd_base.specs.Entry.{null_entry}
+use Rattle.cckd_base.specs.Misfit.{entry_misfit}
+use Rattle.cckd_base.specs.Image.{IsPlace}
 use Rattle.cckd_space.specs.Pieces.{aligned_up}
+use Rattle.cckd_tables.specs.declared.device.Device.{Device}
+use Rattle.cckd_tables.specs.declared.device.Device.TheVariants as device
 use Rattle.cckd_layer.specs.declared.writing.Form.{Form}
 use Rattle.cckd_layer.specs.declared.writing.Form.TheVariants as form
+use Rattle.cckd_layer.specs.declared.writing.Stored.{Stored}
+use Rattle.cckd_layer.specs.declared.writing.Stored.TheVariants as stored
+use Rattle.cckd_base.specs.declared.space.Extent.{Extent}
+use Rattle.cckd_layer.specs.Current.{claim, IsAmong}
+use Rattle.cckd_layer.specs.Held.{NullBytes}
+use Rattle.cckd_layer.specs.Mounted.{LayerState}
 
 -- the bytes that are stored: those given, or what they say
 abbrev pub stored_as : (List ℕ → List ℕ) → Form → List ℕ → List ℕ
@@ -12,3 +29,47 @@ stored_as value form.Value bytes = value bytes
 -- bytes with zeros up to a multiple of 8
 abbrev pub padded : List ℕ → List ℕ
 padded bytes = bytes ++ replicate (aligned_up (length bytes) - length bytes) 0
+
+-- how many bytes want a place
+abbrev pub need_of : Stored → Option ℕ
+need_of (stored.Null format) = None
+need_of (stored.Bytes len size) = Some size
+
+-- the entry of a track of which this is stored, at this place
+abbrev pub entry_of_stored : Stored → Option ℕ → L2Entry
+entry_of_stored (stored.Null format) place = null_entry format
+entry_of_stored (stored.Bytes len size) place = record { pos = unwrap_or place 0; len = len; size = size }
+
+-- The bytes are stored so: as a format of which they are the null track, and as they are where there is none.
+abbrev pub IsStoredOf : NullBytes → Geometry → ℕ → List ℕ → Stored → Type 0
+IsStoredOf null g t bytes (stored.Null format) = IsNullFormat g format × (bytes ≡ null g t format)
+IsStoredOf null g t bytes (stored.Bytes len size) =
+    (len ≡ length bytes) × (size ≡ aligned_up (length bytes)) × ((format : ℕ) → IsNullFormat g format → bytes ≡ null g t format → ⊥)
+
+-- bytes were put to their place in a file, with their zeros, or none were, where they have none
+abbrev pub IsPutTo : Option ℕ → List ℕ → List ℕ → List ℕ → Type 0
+IsPutTo (Some pos) bytes was file =
+    (bytes_at file pos (length bytes) ≡ bytes) × (length file ≡ max (length was) (pos + aligned_up (length bytes)))
+IsPutTo None bytes was file = length file ≡ length was
+
+-- the place is claimed for so many bytes, where there is one
+abbrev pub IsClaimed : Option ℕ → ℕ → List Extent → Type 0
+IsClaimed (Some pos) n claims = IsAmong (claim pos n) claims
+IsClaimed None n claims = Unit {0}
+
+-- of the layer no more than the mark changed, and whether it is hardened
+abbrev pub IsMarkedFrom : LayerState → LayerState → Type 0
+IsMarkedFrom s next = next ≡ record s { header = next.header; marked = next.marked; hardened = next.hardened }
+
+-- a call that failed breaks the layer, unless it was one that reads
+abbrev pub breaks : Result (Unit {0}) Device → Bool
+breaks (Ok done) = false
+breaks (Err device.Read) = false
+breaks (Err device.Write) = true
+breaks (Err device.Sync) = true
+
+-- an entry of a track can be in a file, and its space ends inside it
+pub record CanBePut (l : Layout) (file : List ℕ) (t : ℕ) (e : L2Entry) : Type 0 where
+  pub low : t < track_count l.geo
+  pub fits : entry_misfit l (length file) t e ≡ None
+  pub snug : IsPlace e.pos → e.pos + e.size ≤ length file

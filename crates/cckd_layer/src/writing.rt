@@ -6,7 +6,7 @@ ghost use Rattle.cckd_shelf.specs.World.{World, file_of, after_write, after_torn
 ghost use Rattle.cckd_shelf.specs.declared.fault.Kind.TheVariants.{Writes};
 ghost use Rattle.cckd_shelf.specs.Frame.{OnlyIn};
 ghost use Rattle.cckd_base.specs.declared.space.Extent.{Extent as Space_of};
-ghost use Rattle.cckd_base.specs.Geometry.{track_count, IsNullFormat};
+ghost use Rattle.cckd_base.specs.Geometry.{track_count, IsLayout, IsNullFormat};
 ghost use Rattle.cckd_space.specs.Pieces.{aligned_up};
 ghost use Rattle.cckd_space.specs.Plan.{IsNeed};
 ghost use Rattle.cckd_tables.specs.Device.{CountsDevice};
@@ -15,12 +15,13 @@ ghost use Rattle.cckd_tables.specs.Stages.{free_count};
 ghost use Rattle.cckd_tables.specs.Looking.{HasAlignedTable};
 ghost use Rattle.cckd_layer.specs.Current.{claim, IsAmong};
 ghost use Rattle.cckd_layer.specs.Writes.{Agrees, AgreesWith, KeepsMapWith, StopsWithinWith, IsAct, IsPut, CountsLayer, claim_of, entry_now, failed_by, is_broken_by};
-ghost use Rattle.cckd_layer.specs.Storing.{stored_as, padded};
+ghost use Rattle.cckd_layer.specs.Storing.{stored_as, padded, need_of, entry_of_stored, IsStoredOf, IsPutTo, IsClaimed, IsMarkedFrom, CanBePut, breaks};
+ghost use Rattle.cckd_layer.specs.Marks.{WritesOrSyncs};
 
 use crate::hardening::fault_of;
 use crate::layer::Layer;
 use crate::preparing::Room;
-use cckd_base::{GROUP_TRACKS, L2Entry, LayerFault, Track, Unit};
+use cckd_base::{GROUP_TRACKS, L2Entry, Layout, LayerFault, Track, Unit};
 use cckd_shelf::{Failed, Slot, Stage};
 use cckd_tables::Device;
 
@@ -123,8 +124,8 @@ impl<U: Unit> Layer<U> {
 }
 
 /// What is stored of a track.
-#[derive(Clone, Copy)]
-enum Stored {
+#[derive(Clone, Copy, Debug, PartialEq, Eq)]
+pub enum Stored {
     /// Nothing but the format of its null track.
     Null(u8),
     /// So many bytes, and the size of their space.
@@ -133,7 +134,9 @@ enum Stored {
 
 impl Stored {
     /// How many bytes want a place.
-    fn need(self) -> Option<u32> {
+    fn need(self) -> Option<u32>
+        ensures { result ≡ need_of self }
+    {
         match self {
             Stored::Null(_) => None,
             Stored::Bytes { size, .. } => Some(u32::from(size)),
@@ -141,7 +144,9 @@ impl Stored {
     }
 
     /// The entry of a track of which this is stored.
-    fn entry(self, place: Option<u32>) -> L2Entry {
+    fn entry(self, place: Option<u32>) -> L2Entry
+        ensures { result ≡ entry_of_stored self place }
+    {
         match self {
             Stored::Null(format) => L2Entry {
                 pos: 0,
@@ -157,23 +162,48 @@ impl Stored {
     }
 }
 
+/// The format of which bytes are the null track of the device.
+fn null_format_of<U: Unit>(l: &Layout, t: Track, bytes: &[u8]) -> Option<u8>
+    requires layout { IsLayout l.now }
+    requires track { t.0 < track_count l.now.geo }
+    ensures null { IfSome result (λ f. IsNullFormat l.now.geo f × (bytes.now ≡ U.null_bytes l.now.geo t.0 f)) }
+    ensures not { IfNone result ((f : ℕ) → IsNullFormat l.now.geo f → bytes.now ≡ U.null_bytes l.now.geo t.0 f → ⊥) }
+{
+    if U::is_null(&l.geo, t, 0, bytes) {
+        return Some(0);
+    }
+    if U::is_null(&l.geo, t, 1, bytes) {
+        return Some(1);
+    }
+    None
+}
+
 impl<U: Unit> Layer<U> {
     /// The format of which bytes as they are stored are the null track.
-    fn null_format(&mut self, t: Track, form: Form, bytes: &[u8]) -> Option<u8> {
+    fn null_format(&mut self, t: Track, form: Form, bytes: &[u8]) -> Option<u8>
+        requires track { t.0 < track_count self.old.tables.layout.geo }
+        requires some { 0 < length bytes.now }
+        requires short { length bytes.now ≤ 65528 }
+        ensures null { IfSome result (λ f. IsNullFormat self.old.tables.layout.geo f × (stored_as U.value form bytes.now ≡ U.null_bytes self.old.tables.layout.geo t.0 f)) }
+        ensures not { IfNone result ((f : ℕ) → IsNullFormat self.old.tables.layout.geo f → stored_as U.value form bytes.now ≡ U.null_bytes self.old.tables.layout.geo t.0 f → ⊥) }
+        ensures long { length (stored_as U.value form bytes.now) ≡ length bytes.now }
+        ensures same { self.new ≡ self.old }
+    {
         let layout = self.tables.layout();
         fill::<U>(form, bytes, self.buffer.as_mut_slice());
-        let stored = &self.buffer[..bytes.len()];
-        if U::is_null(&layout.geo, t, 0, stored) {
-            return Some(0);
-        }
-        if U::is_null(&layout.geo, t, 1, stored) {
-            return Some(1);
-        }
-        None
+        null_format_of::<U>(&layout, t, &self.buffer[..bytes.len()])
     }
 
     /// What is stored of bytes that are given.
-    fn stored(&mut self, t: Track, form: Form, bytes: &[u8]) -> Stored {
+    fn stored(&mut self, t: Track, form: Form, bytes: &[u8]) -> Stored
+        requires track { t.0 < track_count self.old.tables.layout.geo }
+        requires some { 0 < length bytes.now }
+        requires short { length bytes.now ≤ 65528 }
+        ensures stored { IsStoredOf U.null_bytes self.old.tables.layout.geo t.0 (stored_as U.value form bytes.now) result }
+        ensures need { IfSome (need_of result) IsNeed }
+        ensures long { length (stored_as U.value form bytes.now) ≡ length bytes.now }
+        ensures same { self.new ≡ self.old }
+    {
         match self.null_format(t, form, bytes) {
             Some(format) => Stored::Null(format),
             None => Stored::Bytes {
@@ -190,7 +220,21 @@ impl<U: Unit> Layer<U> {
         place: Option<u32>,
         form: Form,
         bytes: &[u8],
-    ) -> Result<(), Device> {
+    ) -> Result<(), Device>
+        requires some { 0 < length bytes.now }
+        requires short { length bytes.now ≤ 65528 }
+        ensures rest { OnOk result (IsMarkedFrom self.old self.new) }
+        ensures marked { OnOk result (self.new.marked ≡ true) }
+        ensures map { (claims : List Space_of) → IsClaimed place (aligned_up (length bytes.now)) claims
+            → OnOk result (KeepsMapWith claims claims U.null_bytes self.old self.new (seen T.Shows stage.old) (seen T.Shows stage.new)) }
+        ensures put { (claims : List Space_of) → Tells (seen T.Shows stage.old) → AgreesWith claims self.old (seen T.Shows stage.old).world
+            → OnOk result (IsPutTo place (stored_as U.value form bytes.now) (file_of (seen T.Shows stage.old).world self.old.slot) (file_of (seen T.Shows stage.new).world self.old.slot)) }
+        ensures act { (claims : List Space_of) → IsClaimed place (aligned_up (length bytes.now)) claims
+            → IsAct claims U.null_bytes self.old self.new (seen T.Shows stage.old) (seen T.Shows stage.new) }
+        ensures broken { self.old.broken ≡ false → self.new.broken ≡ breaks result }
+        ensures kind { IfErr result WritesOrSyncs }
+        ensures counts { CountsDevice result (seen T.Shows stage.old).faults (seen T.Shows stage.new).faults }
+    {
         if let Err(fault) = self.mark(stage) {
             return Err(fault);
         }

@@ -1,11 +1,13 @@
-use Rattle.std.proofs.Common.{◌≡◌, List, true, sym, ap, subst}
-use Rattle.cckd_shelf.specs.Seen.{seen}
+use Rattle.std.proofs.Common.{◌≡◌, List, length, true, sym, ap, subst}
+use Rattle.cckd_shelf.specs.Seen.{seen, Tells}
+use Rattle.cckd_shelf.specs.World.{file_of}
 use Rattle.cckd_base.specs.declared.space.Extent.{Extent}
 use Rattle.cckd_image.specs.declared.header.ImageHeader.{ImageHeader}
 use Rattle.cckd_layer.specs.Marks.{SpellsSecond}
 use Rattle.cckd_layer.specs.Mounted.{LayerState}
-use Rattle.cckd_layer.specs.Writes.{StopsWithinWith, KeepsMapWith, AgreesAgainWith, marked_layer}
+use Rattle.cckd_layer.specs.Writes.{AgreesWith, StopsWithinWith, KeepsMapWith, AgreesAgainWith, marked_layer}
 use Rattle.cckd_layer.proofs.MarkLemmas.{mark_agrees, mark_within}
+use Rattle.cckd_layer.proofs.StoreLemmas.{mark_length}
 use Rattle.cckd_layer.proofs.layer.Layer.mark_anew.Goals as goal
 
 pub returns-in-Ok-clause-map : goal.returns-in-Ok-clause-map
@@ -41,3 +43,12 @@ returns-in-Err-clause-stopped g c =
     let spells = subst (λ (h : ImageHeader). SpellsSecond c.second_header-second.result h.cckd) c.open_header-opened.ensures c.second_header-second.ensures in
     subst (λ (x : LayerState). (claims : List Extent) → StopsWithinWith claims g.U.Unit.null_bytes x old new) c.self.view_is
     (λ claims. mark_within claims g.U.Unit.null_bytes s old new c.second_header-second.result spells c.put_second.ensures.stopped)
+
+pub returns-in-Ok-clause-len : goal.returns-in-Ok-clause-len
+returns-in-Ok-clause-len g c =
+    let i = c.self.inside in
+    let old = seen g.T.Shows c.args.stage.now in
+    let new = seen g.T.Shows c.put_second.new.shelf in
+    let s : LayerState = record { slot = i.slot; header = i.header; tables = i.tables; plan = i.space; marked = i.marked; hardened = i.hardened; broken = i.broken } in
+    subst (λ (x : LayerState). (claims : List Extent) → Tells old → AgreesWith claims x old.world → length (file_of new.world x.slot) ≡ length (file_of old.world x.slot)) c.self.view_is
+    (λ claims told a. mark_length claims s old.world new.world c.second_header-second.result c.second_header-second.ensures.long (c.in-Ok.ensures.made told) a)
