@@ -66,7 +66,7 @@ claim_agrees claims null s plan need w some r sound a = record {
 }
 
 -- a position names a space, or it doesn't
-place_or_none : (pos : ℕ) → IsPlace pos ⊎ (IsPlace pos → ⊥)
+pub place_or_none : (pos : ℕ) → IsPlace pos ⊎ (IsPlace pos → ⊥)
 place_or_none pos = elim (place_or_not pos) [ inl place ↦ inl place | inr (inl zero) ↦ inr (λ place. place.0 zero) | inr (inr parent) ↦ inr (λ place. place.1 parent) ]
 
 -- what is staged, once a word is

@@ -22,6 +22,7 @@ pub mod NamedLemmas
 pub mod NearLemmas
 pub mod OpenLemmas
 pub mod PieceLemmas
+pub mod PlacedLemmas
 pub mod PrepareLemmas
 pub mod PutLemmas
 pub mod ReadLemmas

@@ -1,6 +1,8 @@
 -- How the bytes that are given to a write are stored.
-use Rattle.std.specs.Prelude.{ℕ, ◌≡◌, ◌-◌, ◌+◌, ◌<◌, ◌≤◌, max, List, ◌++◌, length, replicate, Bool, true, false, Option, Some, None, Result, Ok, Err}
-use Rattle.std.specs.Option.{unwrap_or}
+use Rattle.std.specs.Prelude.{ℕ, ◌≡◌, ◌-◌, ◌+◌, ◌/◌, ◌<◌, ◌≤◌, max, List, [], ◌++◌, length, replicate, Bool, true, false, Option, Some, None, Result, Ok, Err}
+use Rattle.std.specs.Option.{is_some, unwrap_or}
+use Rattle.cckd_shelf.specs.Seen.{Seen}
+use Rattle.cckd_shelf.specs.World.{file_of}
 use Rattle.cckd_base.specs.declared.geometry.Geometry.{Geometry}
 use Rattle.cckd_base.specs.declared.geometry.Layout.{Layout}
 use Rattle.cckd_base.specs.declared.entry.L2Entry.{L2Entry}
@@ -10,6 +12,7 @@ use Rattle.cckd_base.specs.Entry.{null_entry}
 use Rattle.cckd_base.specs.Misfit.{entry_misfit}
 use Rattle.cckd_base.specs.Image.{IsPlace}
 use Rattle.cckd_space.specs.Pieces.{aligned_up}
+use Rattle.cckd_tables.specs.Staging.{IsStaged, place_for}
 use Rattle.cckd_tables.specs.declared.device.Device.{Device}
 use Rattle.cckd_tables.specs.declared.device.Device.TheVariants as device
 use Rattle.cckd_layer.specs.declared.writing.Form.{Form}
@@ -20,6 +23,7 @@ use Rattle.cckd_base.specs.declared.space.Extent.{Extent}
 use Rattle.cckd_layer.specs.Current.{claim, IsAmong}
 use Rattle.cckd_layer.specs.Held.{NullBytes}
 use Rattle.cckd_layer.specs.Mounted.{LayerState}
+use Rattle.cckd_layer.specs.Writes.{AgreesWith, TakesClaim, claim_of, entry_now}
 
 -- the bytes that are stored: those given, or what they say
 abbrev pub stored_as : (List ℕ → List ℕ) → Form → List ℕ → List ℕ
@@ -68,8 +72,15 @@ breaks (Err device.Read) = false
 breaks (Err device.Write) = true
 breaks (Err device.Sync) = true
 
--- an entry of a track can be in a file, and its space ends inside it
-pub record CanBePut (l : Layout) (file : List ℕ) (t : ℕ) (e : L2Entry) : Type 0 where
-  pub low : t < track_count l.geo
-  pub fits : entry_misfit l (length file) t e ≡ None
-  pub snug : IsPlace e.pos → e.pos + e.size ≤ length file
+-- An entry of a track can be staged, whose old one points there: it can be in the file, and its space and that of the
+-- group's new table are claimed, where it has one and one is given. No new table was staged for the group before. The length
+-- is the file's, where an entry is staged for the track.
+pub record CanPlace (claims : List Extent) (s : LayerState) (t old : ℕ) (table : Option ℕ) (e : L2Entry) (len : ℕ) (w : Seen) : Type 0 where
+  pub agrees : AgreesWith (claims ++ claim_of (Some 2048) table) s w.world
+  pub takes : TakesClaim e claims []
+  pub low : t < track_count s.tables.layout.geo
+  pub fits : entry_misfit s.tables.layout (length (file_of w.world s.slot)) t e ≡ None
+  pub snug : IsPlace e.pos → e.pos + e.size ≤ length (file_of w.world s.slot)
+  pub new : is_some table ≡ true → place_for (t / 256) s.tables.stages.words ≡ None
+  pub points : old ≡ (entry_now s w t).pos
+  pub length_is : IsStaged t s.tables.stages → len ≡ length (file_of w.world s.slot)

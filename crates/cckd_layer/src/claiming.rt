@@ -32,6 +32,7 @@ pub(crate) struct Places {
 /// Lets the space at the position of a track's entry go: that of a staged one is given back, and any other leaves.
 fn free_old(space: &mut Space, staged: Option<L2Entry>, pos: u32, len: u32)
     ensures frees { FreesOld staged pos len space.old space.new }
+    ensures limit { space.new.limit ≡ space.old.limit }
     ensures spent { space.old.spare ≤ space.new.spare }
     ensures sound { IsSound space.new }
 {
@@ -82,11 +83,14 @@ impl<U: Unit> Layer<U> {
         requires free { IsMoved group self.old.tables.stages ⊎ (0 < free_count self.old.tables.stages) }
         requires place { pos % 8 ≡ 0 }
         ensures staged { self.new ≡ with_table group pos self.old self.new.plan }
+        ensures limit { self.new.plan.limit ≡ self.old.plan.limit }
+        ensures free { free_count self.old.tables.stages ≤ free_count self.new.tables.stages + 1 }
         ensures table { HasAlignedTable self.new.tables group }
         ensures map { (claims : List Space_of) (w : Seen) → place_for group self.old.tables.stages.words ≡ None
             → KeepsMapWith (claim pos 2048 ∷ claims) claims U.null_bytes self.old self.new w w }
         ensures spent { self.new.plan.spare ≡ self.old.plan.spare }
     {
+        let _layout = self.tables.layout();
         let old = self.tables.word(group);
         leave_place(&mut self.space, old);
         self.tables.stage_word(group, pos);
@@ -100,6 +104,7 @@ impl<U: Unit> Layer<U> {
         requires free { IsStaged t.0 self.old.tables.stages ⊎ (0 < free_count self.old.tables.stages) }
         requires table { HasAlignedTable self.old.tables (t.0 / 256) }
         ensures staged { self.new ≡ with_track t.0 entry self.old self.new.plan }
+        ensures limit { self.new.plan.limit ≡ self.old.plan.limit }
         ensures map { (claims rest : List Space_of) (w : Seen) → CanStage claims rest self.old t.0 entry w
             → pos ≡ (entry_now self.old w t.0).pos → (IsStaged t.0 self.old.tables.stages → len ≡ length (file_of w.world self.old.slot))
             → StoresIn rest U.null_bytes self.old self.new t.0 (bytes_by_entry U.null_bytes self.old.tables.layout (file_of w.world self.old.slot) t.0 entry) w w }

@@ -6,7 +6,9 @@ ghost use Rattle.cckd_shelf.specs.World.{World, file_of, after_write, after_torn
 ghost use Rattle.cckd_shelf.specs.declared.fault.Kind.TheVariants.{Writes};
 ghost use Rattle.cckd_shelf.specs.Frame.{OnlyIn};
 ghost use Rattle.cckd_base.specs.declared.space.Extent.{Extent as Space_of};
+ghost use Rattle.cckd_base.specs.declared.entry.L2Entry.{L2Entry as Entry_of};
 ghost use Rattle.cckd_base.specs.Geometry.{track_count, IsLayout, IsNullFormat};
+ghost use Rattle.cckd_base.specs.Entry.{bytes_by_entry};
 ghost use Rattle.cckd_space.specs.Pieces.{aligned_up};
 ghost use Rattle.cckd_space.specs.Plan.{IsNeed};
 ghost use Rattle.cckd_tables.specs.Device.{CountsDevice};
@@ -14,8 +16,8 @@ ghost use Rattle.cckd_tables.specs.Staging.{IsStaged};
 ghost use Rattle.cckd_tables.specs.Stages.{free_count};
 ghost use Rattle.cckd_tables.specs.Looking.{HasAlignedTable};
 ghost use Rattle.cckd_layer.specs.Current.{claim, IsAmong};
-ghost use Rattle.cckd_layer.specs.Writes.{Agrees, AgreesWith, KeepsMapWith, StopsWithinWith, IsAct, IsPut, CountsLayer, claim_of, entry_now, failed_by, is_broken_by};
-ghost use Rattle.cckd_layer.specs.Storing.{stored_as, padded, need_of, entry_of_stored, IsStoredOf, IsPutTo, IsClaimed, IsMarkedFrom, CanBePut, breaks};
+ghost use Rattle.cckd_layer.specs.Writes.{Agrees, AgreesWith, KeepsMapWith, StopsWithinWith, IsAct, IsPut, IsSameFile, AgreesAgainWith, CanStage, StoresIn, CountsLayer, claim_of, entry_now, failed_by, is_broken_by};
+ghost use Rattle.cckd_layer.specs.Storing.{stored_as, padded, need_of, entry_of_stored, IsStoredOf, IsPutTo, IsClaimed, IsMarkedFrom, CanPlace, breaks};
 ghost use Rattle.cckd_layer.specs.Marks.{WritesOrSyncs};
 
 use crate::hardening::fault_of;
@@ -244,11 +246,39 @@ impl<U: Unit> Layer<U> {
         }
     }
 
-    /// Stages what was placed: the group's new table, where it gets one, and the track's entry.
-    fn stage_places(&mut self, t: Track, old: u32, table: Option<u32>, entry: L2Entry, len: u32) {
+    /// Stages the new table of a track's group, where it gets one.
+    fn stage_new_table(&mut self, t: Track, table: Option<u32>)
+        requires track { t.0 < track_count self.old.tables.layout.geo }
+        requires free { 2 ≤ free_count self.old.tables.stages }
+        requires aligned { IfSome table (λ pos. pos % 8 ≡ 0) }
+        requires table { is_some table ≡ false → HasAlignedTable self.old.tables (t.0 / 256) }
+        ensures rest { self.new ≡ record self.old { tables = self.new.tables; plan = self.new.plan; hardened = self.new.hardened } }
+        ensures same { IsSameFile self.old self.new }
+        ensures free { 0 < free_count self.new.tables.stages }
+        ensures has { HasAlignedTable self.new.tables (t.0 / 256) }
+        ensures entries { self.new.tables.stages.entries ≡ self.old.tables.stages.entries }
+        ensures can { (claims : List Space_of) (pos len : ℕ) (e : Entry_of) (w : Seen) → CanPlace claims self.old t.0 pos table e len w → Tells w → CanStage claims [] self.new t.0 e w }
+        ensures map { (claims : List Space_of) (pos len : ℕ) (e : Entry_of) (w : Seen) → CanPlace claims self.old t.0 pos table e len w → Tells w
+            → AgreesAgainWith claims U.null_bytes self.old self.new w w }
+    {
+        let _layout = self.tables.layout();
         if let Some(pos) = table {
             self.stage_table(t.0 / GROUP_TRACKS, pos);
         }
+    }
+
+    /// Stages what was placed: the group's new table, where it gets one, and the track's entry.
+    fn stage_places(&mut self, t: Track, old: u32, table: Option<u32>, entry: L2Entry, len: u32)
+        requires track { t.0 < track_count self.old.tables.layout.geo }
+        requires free { 2 ≤ free_count self.old.tables.stages }
+        requires aligned { IfSome table (λ pos. pos % 8 ≡ 0) }
+        requires table { is_some table ≡ false → HasAlignedTable self.old.tables (t.0 / 256) }
+        ensures rest { self.new ≡ record self.old { tables = self.new.tables; plan = self.new.plan; hardened = false } }
+        ensures same { IsSameFile self.old self.new }
+        ensures map { (claims : List Space_of) (w : Seen) → CanPlace claims self.old t.0 old table entry len w → Tells w
+            → StoresIn [] U.null_bytes self.old self.new t.0 (bytes_by_entry U.null_bytes self.old.tables.layout (file_of w.world self.old.slot) t.0 entry) w w }
+    {
+        self.stage_new_table(t, table);
         self.stage_track(t, old, entry, len);
     }
 

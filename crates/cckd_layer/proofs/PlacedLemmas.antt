@@ -1,0 +1,93 @@
+-- What was placed is staged: the layer has the new bytes of the track.
+use Rattle.std.proofs.Common.{◌≡◌, ◌⊎◌, ◌+◌, ◌%◌, ◌/◌, ◌<◌, ◌≤◌, ℕ, List, [], ◌∷◌, ◌++◌, length, slice_index, Option, Some, None, IsSome, IsNone, refl, sym, ◌∙◌, ap, subst, inl, inr, arith, append-nil}
+use Rattle.cckd_shelf.specs.World.{World, file_of}
+use Rattle.cckd_shelf.specs.Seen.{Seen, Tells}
+use Rattle.cckd_base.specs.declared.geometry.Layout.{Layout}
+use Rattle.cckd_base.specs.declared.entry.L2Entry.{L2Entry}
+use Rattle.cckd_base.specs.declared.space.Extent.{Extent}
+use Rattle.cckd_base.specs.Geometry.{track_count}
+use Rattle.cckd_base.specs.Entry.{word_at, bytes_by_entry}
+use Rattle.cckd_base.specs.Image.{IsPlace}
+use Rattle.cckd_base.specs.Misfit.{entry_misfit}
+use Rattle.cckd_tables.specs.Staging.{Stages, IsMoved, IsStaged, place_for}
+use Rattle.cckd_tables.specs.Tables.{TableView, AreOf}
+use Rattle.cckd_tables.specs.declared.staged.StagedWord.{StagedWord}
+use Rattle.cckd_tables.specs.Stages.{free_count, with_word}
+use Rattle.cckd_tables.specs.Looking.{IsTables, HasAlignedTable}
+use Rattle.cckd_tables.proofs.StageLemmas.{count_word_new, count_word_again}
+use Rattle.cckd_layer.specs.Held.{NullBytes, Tracks, AreSame}
+use Rattle.cckd_layer.specs.Current.{claim, CanBeEntry}
+use Rattle.cckd_layer.specs.Mounted.{LayerState}
+use Rattle.cckd_layer.specs.Writes.{AgreesWith, AgreesAgainWith, TakesClaim, CanStage, StoresIn, IsSameFile, claim_of, entry_now, map_of}
+use Rattle.cckd_layer.specs.Storing.{CanPlace}
+use Rattle.cckd_layer.proofs.ClaimLemmas.{place_or_none}
+use Rattle.cckd_layer.proofs.SwapLemmas.{agrees_swap}
+
+-- a group with an aligned table has one in the file, or a new one
+pub tabled_of : (v : TableView) (file : List ℕ) (g : ℕ) → g < v.layout.groups → AreOf v file → HasAlignedTable v g → IsMoved g v.stages ⊎ (IsPlace (word_at v.layout file g) × (word_at v.layout file g % 8 ≡ 0))
+tabled_of v file g low are (inl moved) = inl moved
+tabled_of v file g low are (inr stands) =
+    let same = sym (are.words g low) in
+    inr (subst IsPlace same stands.0, subst (λ (w : ℕ). w % 8 ≡ 0) same stands.1)
+
+-- the map of a layer that kept it is stored over
+pub stores_then : (claims : List Extent) (null : NullBytes) (s m n : LayerState) (t : ℕ) (bytes : Option (List ℕ)) (a b c : Seen) → IsSameFile s m → AreSame (track_count s.tables.layout.geo) (map_of null m b) (map_of null s a)
+    → StoresIn claims null m n t bytes b c → StoresIn claims null s n t bytes a c
+stores_then claims null s m n t bytes a b c same maps k = record {
+  agrees = k.agrees;
+  stores = record {
+    here = k.stores.here;
+    others = λ u low other. k.stores.others u (subst (λ (l : Layout). u < track_count l.geo) (sym same.layout) low) other ∙ maps.each u low;
+  };
+}
+
+-- the claim of the table comes first
+pub table_first : (claims : List Extent) (e : L2Entry) (q : ℕ) (s : LayerState) (w : World) → TakesClaim e claims [] → AgreesWith (claims ++ claim q 2048 ∷ []) s w → AgreesWith (claim q 2048 ∷ claims) s w
+table_first [] e q s w takes a = a
+table_first (x ∷ []) e q s w takes a = agrees_swap x (claim q 2048) [] s w a
+table_first (x ∷ y ∷ rest) e q s w takes a = absurd (two_taken takes)
+  where
+    two_taken : TakesClaim e (x ∷ y ∷ rest) [] → ⊥
+    two_taken k = elim (place_or_none e.pos) [
+      | inl place ↦ (let one = k.space place in cc)
+      | inr none ↦ (let nothing = k.nothing none in cc)
+    ]
+
+-- where the group has a table
+pub can_stage_none : (claims : List Extent) (s : LayerState) (t old : ℕ) (e : L2Entry) (len : ℕ) (w : Seen) → t / 256 < s.tables.layout.groups → HasAlignedTable s.tables (t / 256) → CanPlace claims s t old None e len w → CanStage claims [] s t e w
+can_stage_none claims s t old e len w low has k =
+    let a = subst (λ (cs : List Extent). AgreesWith cs s w.world) (append-nil claims) k.agrees in
+    record {
+      agrees = a;
+      takes = k.takes;
+      can = record { low = k.low; fits = k.fits; snug = k.snug; tabled = tabled_of s.tables (file_of w.world s.slot) (t / 256) low a.are has };
+    }
+
+-- where it gets one, which is staged
+pub can_stage_new : (claims : List Extent) (s m : LayerState) (t old q : ℕ) (e : L2Entry) (len : ℕ) (w : Seen) → IsSameFile s m → IsMoved (t / 256) m.tables.stages → AgreesWith claims m w.world → CanPlace claims s t old (Some q) e len w
+    → CanStage claims [] m t e w
+can_stage_new claims s m t old q e len w same moved a k = record {
+  agrees = a;
+  takes = k.takes;
+  can = record {
+    low = subst (λ (l : Layout). t < track_count l.geo) (sym same.layout) k.low;
+    fits = subst (λ (l : Layout). entry_misfit l (length (file_of w.world m.slot)) t e ≡ None) (sym same.layout) (subst (λ (n : ℕ). entry_misfit s.tables.layout (length (file_of w.world n)) t e ≡ None) (sym same.slot) k.fits);
+    snug = λ place. subst (λ (n : ℕ). e.pos + e.size ≤ length (file_of w.world n)) (sym same.slot) (k.snug place);
+    tabled = inl moved;
+  };
+}
+
+-- the bytes of an entry in the file of another state of the layer
+pub stores_as : (claims : List Extent) (null : NullBytes) (s m n : LayerState) (t : ℕ) (e : L2Entry) (w : Seen) → IsSameFile s m
+    → StoresIn claims null m n t (bytes_by_entry null m.tables.layout (file_of w.world m.slot) t e) w w → StoresIn claims null m n t (bytes_by_entry null s.tables.layout (file_of w.world s.slot) t e) w w
+stores_as claims null s m n t e w same k =
+    subst (λ (l : Layout). StoresIn claims null m n t (bytes_by_entry null l (file_of w.world s.slot) t e) w w) same.layout
+    (subst (λ (x : ℕ). StoresIn claims null m n t (bytes_by_entry null m.tables.layout (file_of w.world x) t e) w w) same.slot k)
+
+-- a word takes one of the free stages at most
+pub free_word : (w : StagedWord) (v : TableView) → IsTables v → free_count v.stages ≤ free_count (with_word w v.stages) + 1
+free_word w v t = by (place_for w.group v.stages.words) refl
+  where
+    by : (o : Option ℕ) → place_for w.group v.stages.words ≡ o → free_count v.stages ≤ free_count (with_word w v.stages) + 1
+    by None none = let k = count_word_new w v.stages t.staged (subst (λ (o : Option ℕ). IsNone o) (sym none) refl) in omega (arith, k)
+    by (Some pos) some = let k = count_word_again w v.stages t.staged (subst (λ (o : Option ℕ). IsSome o) (sym some) refl) in omega (arith, k)
