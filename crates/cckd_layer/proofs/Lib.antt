@@ -26,6 +26,7 @@ pub mod PlacedLemmas
 pub mod PrepareLemmas
 pub mod PutLemmas
 pub mod ReadLemmas
+pub mod ReadyLemmas
 pub mod RemarkLemmas
 pub mod RemarkedLemmas
 pub mod ReservedLemmas

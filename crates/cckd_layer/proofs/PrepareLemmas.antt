@@ -136,3 +136,11 @@ hardened_full s m h n a b d e t need (Err why) null first second map again full 
     let k = map told agrees in
     let j = again (first told) k.agrees in
     full (second (first told)) j.agrees
+
+-- a layer that nothing was done to has the map that it had
+pub map_same : (null : NullBytes) (s : LayerState) (w : Seen) → KeepsMap null s s w w
+map_same null s w told agrees = record { agrees = agrees; entries = λ t low. refl; same = record { each = λ t low. refl } }
+
+-- a look-up leaves the file that a layer is of
+pub looked_same : (s next : LayerState) (cached : List CachedTable) → next ≡ with_tables s (with_cached s.tables cached) → IsSameFile s next
+looked_same s next cached rest = record { slot = ap (λ (x : LayerState). x.slot) rest; layout = ap (λ (x : LayerState). x.tables.layout) rest; limit = ap (λ (x : LayerState). x.plan.limit) rest }

@@ -1,7 +1,7 @@
 -- How the bytes that are given to a write are stored.
 use Rattle.std.specs.Prelude.{ℕ, ◌≡◌, ◌-◌, ◌+◌, ◌/◌, ◌<◌, ◌≤◌, max, List, [], ◌++◌, length, replicate, Bool, true, false, Option, Some, None, Result, Ok, Err}
 use Rattle.std.specs.Option.{is_some, unwrap_or}
-use Rattle.cckd_shelf.specs.Seen.{Seen}
+use Rattle.cckd_shelf.specs.Seen.{Seen, Tells}
 use Rattle.cckd_shelf.specs.World.{file_of}
 use Rattle.cckd_base.specs.declared.geometry.Geometry.{Geometry}
 use Rattle.cckd_base.specs.declared.geometry.Layout.{Layout}
@@ -23,7 +23,11 @@ use Rattle.cckd_base.specs.declared.space.Extent.{Extent}
 use Rattle.cckd_layer.specs.Current.{claim, IsAmong}
 use Rattle.cckd_layer.specs.Held.{NullBytes}
 use Rattle.cckd_layer.specs.Mounted.{LayerState}
-use Rattle.cckd_layer.specs.Writes.{AgreesWith, TakesClaim, claim_of, entry_now}
+use Rattle.cckd_base.specs.declared.layer_fault.LayerFault.{LayerFault}
+use Rattle.cckd_base.specs.declared.layer_fault.LayerFault.TheVariants as fault
+use Rattle.cckd_layer.specs.declared.writing.Prepared.{Prepared}
+use Rattle.cckd_layer.specs.Writes.{Agrees, AgreesWith, AgreesAgainWith, StoresIn, TakesClaim, claim_of, claims_of, entry_now}
+use Rattle.cckd_layer.specs.Preparing.{SuitsFile, LacksRoom}
 
 -- the bytes that are stored: those given, or what they say
 abbrev pub stored_as : (List ℕ → List ℕ) → Form → List ℕ → List ℕ
@@ -84,3 +88,21 @@ pub record CanPlace (claims : List Extent) (s : LayerState) (t old : ℕ) (table
   pub new : is_some table ≡ true → place_for (t / 256) s.tables.stages.words ≡ None
   pub points : old ≡ (entry_now s w t).pos
   pub length_is : IsStaged t s.tables.stages → len ≡ length (file_of w.world s.slot)
+
+-- A layer is ready for a write: it agrees with its file, with these places claimed, and has the map that it had. The places
+-- suit the file, and the old entry points where it was noted.
+pub record IsPrepared (null : NullBytes) (s next : LayerState) (t : ℕ) (old new : Seen) (p : Prepared) : Type 0 where
+  pub again : AgreesAgainWith (claims_of (need_of p.stored) p.room.places) null s next old new
+  pub suits : SuitsFile next t p.room new.world
+  pub points : p.old ≡ (entry_now next new t).pos
+
+-- what a write is refused for, but for bytes that are no track: that there is no room, or that a call failed
+abbrev pub IsStoreRefusal : NullBytes → LayerState → LayerState → Seen → Seen → ℕ → List ℕ → LayerFault → Type 0
+IsStoreRefusal null s next old new t bytes (fault.Full full) =
+    Tells old → Agrees s old.world → (st : Stored) × IsStoredOf null s.tables.layout.geo t bytes st × LacksRoom next new.world t (need_of st) full
+IsStoreRefusal null s next old new t bytes (fault.Track why) = ⊥
+IsStoreRefusal null s next old new t bytes why = Unit {0}
+
+-- where the layer agreed with its file it does again, and has these bytes of the track, and of the others those that it had
+abbrev pub StoresTrack : NullBytes → LayerState → LayerState → ℕ → List ℕ → Seen → Seen → Type 0
+StoresTrack null s next t bytes old new = Tells old → Agrees s old.world → StoresIn [] null s next t (Some bytes) old new

@@ -11,7 +11,7 @@ ghost use Rattle.cckd_tables.specs.Stages.{free_count};
 ghost use Rattle.cckd_tables.specs.Looking.{HasAlignedTable, with_cached};
 ghost use Rattle.cckd_layer.specs.Mounted.{CanRead, IsRoomy, with_tables};
 ghost use Rattle.cckd_layer.specs.Reads.{OfFile, OnlyReads, LooksUp, IsAtHand};
-ghost use Rattle.cckd_layer.specs.Writes.{Agrees, AgreesWith, AgreesIn, KeepsMap, KeepsMapWith, IsAct, IsSettled, CountsLayer, HaveNoPlaces, entry_now, claims_of, is_broken_by, with_plan};
+ghost use Rattle.cckd_layer.specs.Writes.{Agrees, AgreesWith, AgreesIn, KeepsMap, KeepsMapWith, IsAct, IsSettled, CountsLayer, IsOutside, HaveNoPlaces, entry_now, claims_of, is_broken_by, with_plan};
 ghost use Rattle.cckd_layer.specs.Preparing.{HasNoneToFree, IsRoom, SuitsFile, IsDenial, IsDeniedFor, IsNoRoomIn, IsUnplaced, IsUnwritten, IsUntouched, FindsRoom};
 
 use crate::claiming::Places;
@@ -81,6 +81,7 @@ impl<U: Unit> Layer<U> {
         ensures act { IsAct [] U.null_bytes self.old self.new (seen T.Shows stage.old) (seen T.Shows stage.new) }
         ensures broken { self.new.broken ≡ is_broken_by result }
         ensures read { result ≡ Err LayerFault.ReadFault → (self.new ≡ self.old) × Stays (seen T.Shows stage.old) (seen T.Shows stage.new) }
+        ensures refusal { IfErr result IsOutside }
         ensures counts { CountsLayer result (seen T.Shows stage.old).faults (seen T.Shows stage.new).faults }
     {
         if self.tables.free_stages() >= 2 {

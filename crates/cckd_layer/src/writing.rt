@@ -16,8 +16,9 @@ ghost use Rattle.cckd_tables.specs.Staging.{IsStaged};
 ghost use Rattle.cckd_tables.specs.Stages.{free_count};
 ghost use Rattle.cckd_tables.specs.Looking.{HasAlignedTable};
 ghost use Rattle.cckd_layer.specs.Current.{claim, IsAmong};
-ghost use Rattle.cckd_layer.specs.Writes.{Agrees, AgreesWith, KeepsMapWith, StopsWithinWith, IsAct, IsPut, IsSameFile, AgreesAgainWith, CanStage, StoresIn, CountsLayer, claim_of, entry_now, failed_by, is_broken_by};
-ghost use Rattle.cckd_layer.specs.Storing.{stored_as, padded, need_of, entry_of_stored, IsStoredOf, IsPutTo, IsClaimed, IsMarkedFrom, CanPlace, breaks};
+ghost use Rattle.cckd_layer.specs.Writes.{Agrees, AgreesIn, AgreesWith, KeepsMap, KeepsMapWith, StopsWithinWith, IsAct, IsPut, IsSameFile, AgreesAgainWith, CanStage, StoresIn, CountsLayer, claim_of, entry_now, failed_by, is_broken_by};
+ghost use Rattle.cckd_layer.specs.Storing.{stored_as, padded, need_of, entry_of_stored, IsStoredOf, IsPutTo, IsClaimed, IsMarkedFrom, CanPlace, IsPrepared, IsStoreRefusal, StoresTrack, breaks};
+ghost use Rattle.cckd_layer.specs.Preparing.{HasNoneToFree, IsRoom, IsDenial};
 ghost use Rattle.cckd_layer.specs.Marks.{WritesOrSyncs};
 
 use crate::hardening::fault_of;
@@ -132,6 +133,15 @@ pub enum Stored {
     Null(u8),
     /// So many bytes, and the size of their space.
     Bytes { len: u16, size: u16 },
+}
+
+/// What a write needs, once it is found.
+#[derive(Clone, Copy)]
+pub(crate) struct Prepared {
+    /// Where the track's old entry points.
+    old: u32,
+    stored: Stored,
+    room: Room,
 }
 
 impl Stored {
@@ -282,34 +292,32 @@ impl<U: Unit> Layer<U> {
         self.stage_track(t, old, entry, len);
     }
 
-    /// Writes a track to its place, and stages it.
-    fn write_placed<T: Stage>(
-        &mut self,
-        stage: &mut T,
-        t: Track,
-        old: u32,
-        room: Room,
-        stored: Stored,
-        form: Form,
-        bytes: &[u8],
-    ) -> Result<(), LayerFault> {
-        if let Err(fault) = self.put_track(stage, room.places.track, form, bytes) {
-            return Err(fault_of(fault));
-        }
-        let entry = stored.entry(room.places.track);
-        let len = room.len.max(entry.pos + u32::from(entry.size));
-        self.stage_places(t, old, room.places.table, entry, len);
-        Ok(())
-    }
-
-    /// Writes a track.
-    fn store<T: Stage>(
+    /// Finds what a write needs: what is stored of its bytes, where the track's old entry points, and places.
+    fn prepare<T: Stage>(
         &mut self,
         stage: &mut T,
         t: Track,
         form: Form,
         bytes: &[u8],
-    ) -> Result<(), LayerFault> {
+    ) -> Result<Prepared, LayerFault>
+        requires whole { self.old.broken ≡ false }
+        requires track { t.0 < track_count self.old.tables.layout.geo }
+        requires some { 0 < length bytes.now }
+        requires short { length bytes.now ≤ 65528 }
+        requires agrees { AgreesIn self.old (seen T.Shows stage.old) }
+        ensures room { IfOk result (λ p. IsRoom self.new t.0 (need_of p.stored) p.room) }
+        ensures free { OnOk result (2 ≤ free_count self.new.tables.stages) }
+        ensures stored { IfOk result (λ p. IsStoredOf U.null_bytes self.old.tables.layout.geo t.0 (stored_as U.value form bytes.now) p.stored) }
+        ensures long { OnOk result (length (stored_as U.value form bytes.now) ≡ length bytes.now) }
+        ensures prepared { Tells (seen T.Shows stage.old) → Agrees self.old (seen T.Shows stage.old).world
+            → IfOk result (IsPrepared U.null_bytes self.old self.new t.0 (seen T.Shows stage.old) (seen T.Shows stage.new)) }
+        ensures kept { IfErr result (λ why. IsDenial why → KeepsMap U.null_bytes self.old self.new (seen T.Shows stage.old) (seen T.Shows stage.new)) }
+        ensures refusal { IfErr result (IsStoreRefusal U.null_bytes self.old self.new (seen T.Shows stage.old) (seen T.Shows stage.new) t.0 (stored_as U.value form bytes.now)) }
+        ensures act { IsAct [] U.null_bytes self.old self.new (seen T.Shows stage.old) (seen T.Shows stage.new) }
+        ensures broken { self.new.broken ≡ is_broken_by result }
+        ensures counts { CountsLayer result (seen T.Shows stage.old).faults (seen T.Shows stage.new).faults }
+        ensures still { 2 ≤ free_count self.old.tables.stages → HasNoneToFree self.old.plan → 4 ≤ self.old.plan.spare → Stays (seen T.Shows stage.old) (seen T.Shows stage.new) }
+    {
         if let Err(fault) = self.make_free_stages(stage) {
             return Err(fault);
         }
@@ -319,9 +327,45 @@ impl<U: Unit> Layer<U> {
         };
         let stored = self.stored(t, form, bytes);
         match self.find_places(stage, t, stored.need()) {
-            Ok(room) => self.write_placed(stage, t, old, room, stored, form, bytes),
+            Ok(room) => Ok(Prepared { old, stored, room }),
             Err(fault) => Err(fault),
         }
+    }
+
+    /// Writes a track: its bytes go to their place, and its entry is staged.
+    fn store<T: Stage>(
+        &mut self,
+        stage: &mut T,
+        t: Track,
+        form: Form,
+        bytes: &[u8],
+    ) -> Result<(), LayerFault>
+        requires whole { self.old.broken ≡ false }
+        requires track { t.0 < track_count self.old.tables.layout.geo }
+        requires some { 0 < length bytes.now }
+        requires short { length bytes.now ≤ 65528 }
+        requires agrees { AgreesIn self.old (seen T.Shows stage.old) }
+        ensures stores { OnOk result (StoresTrack U.null_bytes self.old self.new t.0 (stored_as U.value form bytes.now) (seen T.Shows stage.old) (seen T.Shows stage.new)) }
+        ensures marked { OnOk result (self.new.marked ≡ true) }
+        ensures kept { IfErr result (λ why. IsDenial why → KeepsMap U.null_bytes self.old self.new (seen T.Shows stage.old) (seen T.Shows stage.new)) }
+        ensures refusal { IfErr result (IsStoreRefusal U.null_bytes self.old self.new (seen T.Shows stage.old) (seen T.Shows stage.new) t.0 (stored_as U.value form bytes.now)) }
+        ensures act { IsAct [] U.null_bytes self.old self.new (seen T.Shows stage.old) (seen T.Shows stage.new) }
+        ensures broken { self.new.broken ≡ is_broken_by result }
+        ensures counts { CountsLayer result (seen T.Shows stage.old).faults (seen T.Shows stage.new).faults }
+        ensures still { 2 ≤ free_count self.old.tables.stages → HasNoneToFree self.old.plan → 4 ≤ self.old.plan.spare
+            → IfErr result (λ why. IsDenial why → Stays (seen T.Shows stage.old) (seen T.Shows stage.new)) }
+    {
+        let Prepared { old, stored, room } = match self.prepare(stage, t, form, bytes) {
+            Ok(prepared) => prepared,
+            Err(fault) => return Err(fault),
+        };
+        if let Err(fault) = self.put_track(stage, room.places.track, form, bytes) {
+            return Err(fault_of(fault));
+        }
+        let entry = stored.entry(room.places.track);
+        let len = room.len.max(entry.pos.saturating_add(u32::from(entry.size)));
+        self.stage_places(t, old, room.places.table, entry, len);
+        Ok(())
     }
 
     /// Writes bytes as those of a track, as they are.

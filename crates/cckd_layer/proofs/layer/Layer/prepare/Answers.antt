@@ -1,0 +1,132 @@
+use Rattle.std.proofs.Common.{◌≡◌, ℕ, List, [], Option, Result, Err, refl, sym, ◌∙◌, ap, subst}
+use Rattle.cckd_shelf.specs.Seen.{seen, Tells}
+use Rattle.cckd_base.specs.declared.geometry.Layout.{Layout}
+use Rattle.cckd_base.specs.declared.layer_fault.LayerFault.{LayerFault}
+use Rattle.cckd_layer.specs.Storing.{IsStoredOf, stored_as}
+use Rattle.cckd_layer.specs.Mounted.{LayerState, CanRead}
+use Rattle.cckd_layer.specs.Writes.{Agrees, AgreesIn, IsAct, KeepsMap, KeepsMapWith, claims_of}
+use Rattle.cckd_layer.specs.Preparing.{IsNoRoomIn, SuitsFile}
+use Rattle.cckd_layer.proofs.CallerLemmas.{agrees_reads}
+use Rattle.cckd_layer.proofs.ThenLemmas.{act_still, act_then, maps_then, same_file_twice}
+use Rattle.cckd_layer.proofs.PrepareLemmas.{kept_unread, map_same, looked_same}
+use Rattle.cckd_layer.proofs.ReadyLemmas.{outside_refusal, no_room_refusal, prepared}
+use Rattle.cckd_layer.proofs.layer.Layer.prepare.Goals as goal
+
+pub make_free_stages-requires-clause-can_read : goal.make_free_stages-requires-clause-can_read
+make_free_stages-requires-clause-can_read g c = agrees_reads c.args.self.now (seen g.T.Shows c.args.stage.now) c.requires.agrees
+
+pub returns-in-Err-clause-kept : goal.returns-in-Err-clause-kept
+returns-in-Err-clause-kept g c =
+    let null = g.U.Unit.null_bytes in
+    let s = c.args.self.now in
+    let m = c.make_free_stages.new.self in
+    let a = seen g.T.Shows c.args.stage.now in
+    let b = seen g.T.Shows c.make_free_stages.new.stage in
+    kept_unread null s s m a a b c.in-Err.fault (λ why. c.in-Err.ensures.read (let failed : LayerFault → Result (Unit {0}) LayerFault = λ x. Err x in ap failed why)) c.in-Err.ensures.refusal (λ told. told) (map_same null s a)
+
+pub returns-in-Err-clause-refusal : goal.returns-in-Err-clause-refusal
+returns-in-Err-clause-refusal g c =
+    outside_refusal g.U.Unit.null_bytes c.args.self.now c.make_free_stages.new.self (seen g.T.Shows c.args.stage.now) (seen g.T.Shows c.make_free_stages.new.stage) c.args.t.0 (stored_as g.U.Unit.value c.args.form c.args.bytes.now)
+    c.in-Err.fault c.in-Err.ensures.refusal
+
+pub find_entry-requires-clause-can_read : goal.find_entry-requires-clause-can_read
+find_entry-requires-clause-can_read g c =
+    let null = g.U.Unit.null_bytes in
+    let s = c.args.self.now in
+    let m = c.make_free_stages.new.self in
+    let a = seen g.T.Shows c.args.stage.now in
+    let b = seen g.T.Shows c.make_free_stages.new.stage in
+    agrees_reads m b (λ told. (c.in_default.ensures.map told (c.requires.agrees told)).agrees)
+
+pub find_places-requires-clause-can_read : goal.find_places-requires-clause-can_read
+find_places-requires-clause-can_read g c =
+    let null = g.U.Unit.null_bytes in
+    let s = c.args.self.now in
+    let m = c.make_free_stages.new.self in
+    let a = seen g.T.Shows c.args.stage.now in
+    let b = seen g.T.Shows c.make_free_stages.new.stage in
+    let f = c.find_entry.new.self in
+    let h = c.stored-stored.new.self in
+    let d = seen g.T.Shows c.find_entry.new.stage in
+    let sameF = looked_same m f f.tables.cached c.find_entry.ensures.rest in
+    let sameH = c.stored-stored.ensures.same in
+    let map = maps_then [] [] [] null s m f a b d (λ told. told) c.make_free_stages.ensures.act.same c.in_default.ensures.map c.find_entry.ensures.map in
+    subst (λ (x : LayerState). CanRead x d) (sym sameH) (agrees_reads f d (λ told. (map told (c.requires.agrees told)).agrees))
+
+pub returns-in-Ok-find_places-clause-prepared : goal.returns-in-Ok-find_places-clause-prepared
+returns-in-Ok-find_places-clause-prepared g c =
+    let null = g.U.Unit.null_bytes in
+    let s = c.args.self.now in
+    let m = c.make_free_stages.new.self in
+    let a = seen g.T.Shows c.args.stage.now in
+    let b = seen g.T.Shows c.make_free_stages.new.stage in
+    let f = c.find_entry.new.self in
+    let h = c.stored-stored.new.self in
+    let d = seen g.T.Shows c.find_entry.new.stage in
+    let sameF = looked_same m f f.tables.cached c.find_entry.ensures.rest in
+    let sameH = c.stored-stored.ensures.same in
+    let map = maps_then [] [] [] null s m f a b d (λ told. told) c.make_free_stages.ensures.act.same c.in_default.ensures.map c.find_entry.ensures.map in
+    let n = c.find_places.new.self in
+    let e = seen g.T.Shows c.find_places.new.stage in
+    let room = c.in-Ok-find_places.room in
+    let t = c.args.t.0 in
+    let placed = subst (λ (x : LayerState). KeepsMapWith [] (claims_of c.need.result room.places) null x n d e) sameH c.in-Ok-find_places.ensures.map in
+    let suits = subst (λ (x : LayerState). Tells d → Agrees x d.world → SuitsFile n t room e.world) sameH c.in-Ok-find_places.ensures.suits in
+    prepared null s m f n a b d e t c.in-Ok.entry c.stored-stored.result room c.need.result (λ told. told) (λ told. told) c.make_free_stages.ensures.act.same sameF c.requires.track
+    c.need.ensures c.in_default.ensures.map c.find_entry.ensures.map placed c.in-Ok.ensures.entry suits
+
+pub returns-in-Ok-find_places-clause-act : goal.returns-in-Ok-find_places-clause-act
+returns-in-Ok-find_places-clause-act g c =
+    let null = g.U.Unit.null_bytes in
+    let s = c.args.self.now in
+    let m = c.make_free_stages.new.self in
+    let a = seen g.T.Shows c.args.stage.now in
+    let b = seen g.T.Shows c.make_free_stages.new.stage in
+    let f = c.find_entry.new.self in
+    let h = c.stored-stored.new.self in
+    let d = seen g.T.Shows c.find_entry.new.stage in
+    let sameF = looked_same m f f.tables.cached c.find_entry.ensures.rest in
+    let sameH = c.stored-stored.ensures.same in
+    let map = maps_then [] [] [] null s m f a b d (λ told. told) c.make_free_stages.ensures.act.same c.in_default.ensures.map c.find_entry.ensures.map in
+    let n = c.find_places.new.self in
+    let e = seen g.T.Shows c.find_places.new.stage in
+    let first = act_then [] [] null s m f a b d (λ told. told) c.make_free_stages.ensures.act c.in_default.ensures.map (act_still [] null m f b d sameF c.find_entry.ensures.reads.kept) in
+    act_then [] [] null s f n a d e (λ told. told) first map (subst (λ (x : LayerState). IsAct [] null x n d e) sameH c.find_places.ensures.act)
+
+pub returns-in-Err-find_places-clause-act : goal.returns-in-Err-find_places-clause-act
+returns-in-Err-find_places-clause-act g c =
+    let null = g.U.Unit.null_bytes in
+    let s = c.args.self.now in
+    let m = c.make_free_stages.new.self in
+    let a = seen g.T.Shows c.args.stage.now in
+    let b = seen g.T.Shows c.make_free_stages.new.stage in
+    let f = c.find_entry.new.self in
+    let h = c.stored-stored.new.self in
+    let d = seen g.T.Shows c.find_entry.new.stage in
+    let sameF = looked_same m f f.tables.cached c.find_entry.ensures.rest in
+    let sameH = c.stored-stored.ensures.same in
+    let map = maps_then [] [] [] null s m f a b d (λ told. told) c.make_free_stages.ensures.act.same c.in_default.ensures.map c.find_entry.ensures.map in
+    let n = c.find_places.new.self in
+    let e = seen g.T.Shows c.find_places.new.stage in
+    let first = act_then [] [] null s m f a b d (λ told. told) c.make_free_stages.ensures.act c.in_default.ensures.map (act_still [] null m f b d sameF c.find_entry.ensures.reads.kept) in
+    act_then [] [] null s f n a d e (λ told. told) first map (subst (λ (x : LayerState). IsAct [] null x n d e) sameH c.find_places.ensures.act)
+
+pub returns-in-Err-find_places-clause-refusal : goal.returns-in-Err-find_places-clause-refusal
+returns-in-Err-find_places-clause-refusal g c =
+    let null = g.U.Unit.null_bytes in
+    let s = c.args.self.now in
+    let m = c.make_free_stages.new.self in
+    let a = seen g.T.Shows c.args.stage.now in
+    let b = seen g.T.Shows c.make_free_stages.new.stage in
+    let f = c.find_entry.new.self in
+    let h = c.stored-stored.new.self in
+    let d = seen g.T.Shows c.find_entry.new.stage in
+    let sameF = looked_same m f f.tables.cached c.find_entry.ensures.rest in
+    let sameH = c.stored-stored.ensures.same in
+    let map = maps_then [] [] [] null s m f a b d (λ told. told) c.make_free_stages.ensures.act.same c.in_default.ensures.map c.find_entry.ensures.map in
+    let n = c.find_places.new.self in
+    let e = seen g.T.Shows c.find_places.new.stage in
+    let full = subst (λ (x : LayerState). IsNoRoomIn x n d e c.args.t.0 c.need.result c.in-Err-find_places.fault) sameH c.in-Err-find_places.ensures.full in
+    let value = stored_as g.U.Unit.value c.args.form c.args.bytes.now in
+    let stored = subst (λ (l : Layout). IsStoredOf null l.geo c.args.t.0 value c.stored-stored.result) (sameF.layout ∙ c.make_free_stages.ensures.act.same.layout) c.stored-stored.ensures.stored in
+    no_room_refusal null s n a e c.args.t.0 value c.stored-stored.result c.need.result c.in-Err-find_places.fault c.need.ensures stored c.in-Err-find_places.ensures.kind (λ told agrees. full told (map told agrees).agrees)
