@@ -23,6 +23,7 @@ use Rattle.cckd_base.specs.declared.space.Extent.{Extent}
 use Rattle.cckd_layer.specs.Current.{claim, IsAmong}
 use Rattle.cckd_layer.specs.Held.{NullBytes}
 use Rattle.cckd_layer.specs.Mounted.{LayerState}
+use Rattle.cckd_base.specs.declared.fault.TrackFault.{TrackFault}
 use Rattle.cckd_base.specs.declared.layer_fault.LayerFault.{LayerFault}
 use Rattle.cckd_base.specs.declared.layer_fault.LayerFault.TheVariants as fault
 use Rattle.cckd_layer.specs.declared.writing.Prepared.{Prepared}
@@ -106,3 +107,14 @@ IsStoreRefusal null s next old new t bytes why = Unit {0}
 -- where the layer agreed with its file it does again, and has these bytes of the track, and of the others those that it had
 abbrev pub StoresTrack : NullBytes → LayerState → LayerState → ℕ → List ℕ → Seen → Seen → Type 0
 StoresTrack null s next t bytes old new = Tells old → Agrees s old.world → StoresIn [] null s next t (Some bytes) old new
+
+-- what a write of bytes with this fault as a track, if there is one, is refused for
+abbrev pub IsWriteRefusal : NullBytes → Option TrackFault → LayerState → LayerState → Seen → Seen → ℕ → List ℕ → LayerFault → Type 0
+IsWriteRefusal null found s next old new t bytes (fault.Track why) = found ≡ Some why
+IsWriteRefusal null found s next old new t bytes why = (found ≡ None) × IsStoreRefusal null s next old new t bytes why
+
+-- a refusal that doesn't break the layer
+abbrev pub IsHarmless : LayerFault → Type 0
+IsHarmless fault.WriteFault = ⊥
+IsHarmless fault.SyncFault = ⊥
+IsHarmless why = Unit {0}

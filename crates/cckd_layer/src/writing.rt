@@ -1,5 +1,5 @@
 //! The writing of a track: its bytes go to a free place, and its entry is staged.
-ghost use Rattle.std.specs.Prelude.{◌≡◌, ◌⊎◌, ◌<◌, ◌≤◌, ◌+◌, ◌++◌, ◌/◌, ◌%◌, [], ℕ, List, length, take, IsSome, IsNone, IfSome, IfNone, IfOk, OnOk, IfErr, OnErr, Some, None, true, false};
+ghost use Rattle.std.specs.Prelude.{◌≡◌, ◌⊎◌, ◌<◌, ◌≤◌, ◌+◌, ◌++◌, ◌/◌, ◌%◌, [], ℕ, List, length, take, IsSome, IsNone, IfSome, IfNone, IfOk, OnOk, IfErr, OnErr, Err, Some, None, true, false};
 ghost use Rattle.std.specs.Option.{is_some};
 ghost use Rattle.cckd_shelf.specs.Seen.{Seen, seen, Tells, Stays, Makes, MayMake, Fails};
 ghost use Rattle.cckd_shelf.specs.World.{World, file_of, after_write, after_torn};
@@ -16,8 +16,9 @@ ghost use Rattle.cckd_tables.specs.Staging.{IsStaged};
 ghost use Rattle.cckd_tables.specs.Stages.{free_count};
 ghost use Rattle.cckd_tables.specs.Looking.{HasAlignedTable};
 ghost use Rattle.cckd_layer.specs.Current.{claim, IsAmong};
-ghost use Rattle.cckd_layer.specs.Writes.{Agrees, AgreesIn, AgreesWith, KeepsMap, KeepsMapWith, StopsWithinWith, IsAct, IsPut, IsSameFile, AgreesAgainWith, CanStage, StoresIn, CountsLayer, claim_of, entry_now, failed_by, is_broken_by};
-ghost use Rattle.cckd_layer.specs.Storing.{stored_as, padded, need_of, entry_of_stored, IsStoredOf, IsPutTo, IsClaimed, IsMarkedFrom, CanPlace, IsPrepared, IsStoreRefusal, StoresTrack, breaks};
+ghost use Rattle.cckd_layer.specs.Writes.{Agrees, AgreesIn, AgreesWith, KeepsMap, KeepsMapWith, StopsWithin, StopsWithinWith, IsAct, IsPut, IsSameFile, AgreesAgainWith, CanStage, StoresIn, CountsLayer, claim_of, entry_now, failed_by, is_broken_by};
+ghost use Rattle.cckd_layer.specs.Storing.{stored_as, padded, need_of, entry_of_stored, IsStoredOf, IsPutTo, IsClaimed, IsMarkedFrom, CanPlace, IsPrepared, IsStoreRefusal, IsWriteRefusal, IsHarmless, StoresTrack, breaks};
+ghost use Rattle.cckd_base.specs.declared.fault.TrackFault.{TrackFault as Fault_of};
 ghost use Rattle.cckd_layer.specs.Preparing.{HasNoneToFree, IsRoom, IsDenial};
 ghost use Rattle.cckd_layer.specs.Marks.{WritesOrSyncs};
 
@@ -374,7 +375,31 @@ impl<U: Unit> Layer<U> {
         stage: &mut T,
         t: Track,
         bytes: &[u8],
-    ) -> Result<(), LayerFault> {
+    ) -> Result<(), LayerFault>
+        requires whole { self.old.broken ≡ false }
+        requires track { t.0 < track_count self.old.tables.layout.geo }
+        requires some { 0 < length bytes.now }
+        requires short { length bytes.now ≤ 65528 }
+        requires agrees { AgreesIn self.old (seen T.Shows stage.old) }
+
+        // At Ok the layer has these bytes of the track, and of each other one those that it had.
+        ensures stores { OnOk result (StoresTrack U.null_bytes self.old self.new t.0 bytes.now (seen T.Shows stage.old) (seen T.Shows stage.new)) }
+        ensures marked { OnOk result (self.new.marked ≡ true) }
+        ensures same { IsSameFile self.old self.new }
+
+        // It is refused for want of room, with which all is kept, and by a call that failed: where that was one that reads,
+        // all is kept, and any other breaks the layer.
+        ensures refusal { IfErr result (IsStoreRefusal U.null_bytes self.old self.new (seen T.Shows stage.old) (seen T.Shows stage.new) t.0 bytes.now) }
+        ensures kept { IfErr result (λ why. IsDenial why → KeepsMap U.null_bytes self.old self.new (seen T.Shows stage.old) (seen T.Shows stage.new)) }
+        ensures still { 2 ≤ free_count self.old.tables.stages → HasNoneToFree self.old.plan → 4 ≤ self.old.plan.spare
+            → IfErr result (λ why. IsDenial why → Stays (seen T.Shows stage.old) (seen T.Shows stage.new)) }
+        ensures broken { self.new.broken ≡ is_broken_by result }
+        ensures counts { CountsLayer result (seen T.Shows stage.old).faults (seen T.Shows stage.new).faults }
+
+        // At each operation a stop leaves what it could leave before, or the layer's map as it was, or something of both.
+        ensures stopped { StopsWithin U.null_bytes self.old (seen T.Shows stage.old) (seen T.Shows stage.new) }
+        ensures others { OnlyIn self.old.slot (seen T.Shows stage.old) (seen T.Shows stage.new) }
+    {
         self.store(stage, t, Form::Given, bytes)
     }
 
@@ -384,7 +409,32 @@ impl<U: Unit> Layer<U> {
         stage: &mut T,
         t: Track,
         bytes: &[u8],
-    ) -> Result<(), LayerFault> {
+    ) -> Result<(), LayerFault>
+        requires whole { self.old.broken ≡ false }
+        requires track { t.0 < track_count self.old.tables.layout.geo }
+        requires long { length bytes.now ≤ 65535 }
+        requires agrees { AgreesIn self.old (seen T.Shows stage.old) }
+
+        // At Ok the bytes are a track, and the layer has what they say of it, and of each other one the bytes that it had.
+        ensures stores { OnOk result (StoresTrack U.null_bytes self.old self.new t.0 (U.value bytes.now) (seen T.Shows stage.old) (seen T.Shows stage.new)) }
+        ensures checked { OnOk result (U.fault self.old.tables.layout.geo t.0 bytes.now ≡ None) }
+        ensures marked { OnOk result (self.new.marked ≡ true) }
+        ensures same { IsSameFile self.old self.new }
+
+        // Bytes that are no track are refused by their first fault, and nothing is done.
+        ensures refusal { IfErr result (IsWriteRefusal U.null_bytes (U.fault self.old.tables.layout.geo t.0 bytes.now) self.old self.new (seen T.Shows stage.old) (seen T.Shows stage.new) t.0 (U.value bytes.now)) }
+        ensures refused { (why : Fault_of) → U.fault self.old.tables.layout.geo t.0 bytes.now ≡ Some why
+            → (result ≡ Err (LayerFault.Track why)) × (self.new ≡ self.old) × (seen T.Shows stage.new ≡ seen T.Shows stage.old) }
+        ensures kept { IfErr result (λ why. IsHarmless why → KeepsMap U.null_bytes self.old self.new (seen T.Shows stage.old) (seen T.Shows stage.new)) }
+        ensures still { 2 ≤ free_count self.old.tables.stages → HasNoneToFree self.old.plan → 4 ≤ self.old.plan.spare
+            → IfErr result (λ why. IsHarmless why → Stays (seen T.Shows stage.old) (seen T.Shows stage.new)) }
+        ensures broken { self.new.broken ≡ is_broken_by result }
+        ensures counts { CountsLayer result (seen T.Shows stage.old).faults (seen T.Shows stage.new).faults }
+
+        // At each operation a stop leaves what it could leave before, or the layer's map as it was, or something of both.
+        ensures stopped { StopsWithin U.null_bytes self.old (seen T.Shows stage.old) (seen T.Shows stage.new) }
+        ensures others { OnlyIn self.old.slot (seen T.Shows stage.old) (seen T.Shows stage.new) }
+    {
         let layout = self.tables.layout();
         if let Err(fault) = U::check(&layout.geo, t, bytes) {
             return Err(LayerFault::Track(fault));
