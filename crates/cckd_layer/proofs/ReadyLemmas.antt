@@ -1,19 +1,21 @@
 -- A layer that is ready for a write, and why it isn't.
-use Rattle.std.proofs.Common.{◌≡◌, ◌<◌, ℕ, List, [], Option, refl, sym, ◌∙◌, ap, subst}
-use Rattle.cckd_shelf.specs.Seen.{Seen, Tells}
+use Rattle.std.proofs.Common.{◌≡◌, ◌<◌, ◌≤◌, ℕ, List, [], Option, refl, sym, ◌∙◌, ap, subst}
+use Rattle.cckd_shelf.specs.Seen.{Seen, Tells, Stays}
 use Rattle.cckd_base.specs.declared.geometry.Layout.{Layout}
 use Rattle.cckd_base.specs.declared.entry.L2Entry.{L2Entry}
 use Rattle.cckd_base.specs.Geometry.{track_count}
 use Rattle.cckd_base.specs.declared.layer_fault.LayerFault.{LayerFault}
 use Rattle.cckd_base.specs.declared.layer_fault.LayerFault.TheVariants as fault
+use Rattle.cckd_tables.specs.Tables.{CachedTable}
+use Rattle.cckd_tables.specs.Looking.{with_cached}
 use Rattle.cckd_layer.specs.declared.writing.Stored.{Stored}
 use Rattle.cckd_layer.specs.declared.writing.Prepared.{Prepared}
 use Rattle.cckd_layer.specs.declared.preparing.Room.{Room}
 use Rattle.cckd_layer.specs.Held.{NullBytes}
-use Rattle.cckd_layer.specs.Mounted.{LayerState}
+use Rattle.cckd_layer.specs.Mounted.{LayerState, with_tables}
 use Rattle.cckd_layer.specs.Writes.{Agrees, KeepsMap, KeepsMapWith, IsOutside, IsSameFile, claims_of, entry_now}
-use Rattle.cckd_layer.specs.Preparing.{SuitsFile, LacksRoom, IsNoRoom, IsUnwritten}
-use Rattle.cckd_layer.specs.Storing.{IsPrepared, IsStoredOf, IsStoreRefusal, need_of}
+use Rattle.cckd_layer.specs.Preparing.{SuitsFile, LacksRoom, IsNoRoom, IsUnwritten, IsUntouched, FindsRoom}
+use Rattle.cckd_layer.specs.Storing.{IsPrepared, IsStoredOf, IsStoreRefusal, HasRoomFor, need_of}
 use Rattle.cckd_layer.proofs.ThenLemmas.{maps_then}
 
 -- a fault of the outside
@@ -51,3 +53,20 @@ prepared null s m f n a b d e t entry st room need first second sameM sameF low 
       suits = suits (second (first told)) two.agrees;
       points = ap (λ (x : L2Entry). x.pos) (found (first told) one.agrees ∙ (sym (two.entries t lowM) ∙ sym (three.entries t lowF)));
     }
+
+-- where nothing is in the way, nothing is done until the bytes are put
+pub ready_still : (null : NullBytes) (s m f h n : LayerState) (a b d e : Seen) (t : ℕ) (st : Stored) (need : Option ℕ) (bytes : List ℕ) (cached : List CachedTable) → (Tells a → Tells b) → (Tells b → Tells d)
+    → m ≡ s → b ≡ a → f ≡ with_tables m (with_cached m.tables cached) → Stays b d → h ≡ f → need ≡ need_of st → IsStoredOf null s.tables.layout.geo t bytes st → HasRoomFor null s t bytes → 4 ≤ s.plan.spare
+    → (Tells a → Agrees s a.world → Agrees f d.world) → (Tells d → Agrees h d.world → FindsRoom h t need → 4 ≤ h.plan.spare → IsUntouched h n d e)
+    → Tells a → Agrees s a.world → Stays a e × (n.marked ≡ s.marked)
+ready_still null s m f h n a b d e t st need bytes cached first second sameM sameB rest stays sameH needs stored room spare again finds told agrees =
+    let look : h ≡ with_tables s (with_cached s.tables cached) = sameH ∙ (rest ∙ ap (λ (x : LayerState). with_tables x (with_cached x.tables cached)) sameM) in
+    let r = room st stored in
+    let at : FindsRoom (with_tables s (with_cached s.tables cached)) t (need_of st) = λ wanted full wants lacks. r wanted full (record { new = wants.new; old = wants.old }) lacks in
+    let here : FindsRoom h t need = subst (λ (x : LayerState). FindsRoom x t need) (sym look) (subst (λ (o : Option ℕ). FindsRoom (with_tables s (with_cached s.tables cached)) t o) (sym needs) at) in
+    let enough : 4 ≤ h.plan.spare = subst (λ (x : LayerState). 4 ≤ x.plan.spare) (sym look) spare in
+    let u = finds (second (first told)) (subst (λ (x : LayerState). Agrees x d.world) (sym sameH) (again told agrees)) here enough in
+    (
+      λ x. u.stays (second (first x)) ∙ (stays (first x) ∙ ap (λ (w : Seen). w.world) sameB),
+      ap (λ (x : LayerState). x.marked) u.rest ∙ ap (λ (x : LayerState). x.marked) look,
+    )

@@ -1,17 +1,19 @@
 -- The bytes of a write, with their rounding zeros.
-use Rattle.std.proofs.Common.{◌≡◌, ◌+◌, ◌-◌, ◌<◌, ◌≤◌, max, ℕ, List, [], ◌++◌, length, take, drop, replicate, Some, refl, sym, ◌∙◌, ap, subst, arith, append-nil}
+use Rattle.std.proofs.Common.{◌≡◌, ◌⊎◌, ◌+◌, ◌-◌, ◌<◌, ◌≤◌, max, ℕ, List, [], ◌++◌, length, take, drop, replicate, Some, Result, Ok, Err, OnOk, OnErr, inl, inr, refl, sym, ◌∙◌, ap, subst, arith, append-nil}
 use Rattle.std.proofs.lemmas.List.{take-append-le, take-take, length-append, length-replicate}
 use Rattle.std.proofs.Math.ListN.{drop_of_length-le}
 use Rattle.std.proofs.Math.Seq.{take-length}
 use Rattle.cckd_shelf.specs.Files.{overlaid}
-use Rattle.cckd_shelf.specs.World.{World, file_of, after_write, after_sync}
+use Rattle.cckd_shelf.specs.World.{World, file_of, after_write, after_torn, after_sync}
+use Rattle.cckd_shelf.specs.Seen.{Seen, Tells, Stays, Makes, MayMake}
+use Rattle.cckd_shelf.specs.declared.fault.Failed.{Failed}
 use Rattle.cckd_shelf.proofs.OutcomeLemmas.{length_overlaid, overlaid_within_range}
 use Rattle.cckd_shelf.proofs.WorldLemmas.{now_wrote}
 use Rattle.cckd_base.specs.declared.space.Extent.{Extent}
 use Rattle.cckd_base.specs.Numbers.{bytes_at}
 use Rattle.cckd_space.specs.Pieces.{aligned_up}
 use Rattle.cckd_layer.specs.Mounted.{LayerState}
-use Rattle.cckd_layer.specs.Storing.{padded, IsPutTo}
+use Rattle.cckd_layer.specs.Storing.{padded, IsPutTo, IsOneWrite}
 use Rattle.cckd_layer.specs.Writes.{AgreesWith, claimed_view}
 use Rattle.cckd_layer.proofs.StandLemmas.{stands_sits}
 
@@ -64,3 +66,14 @@ put_after slot other pos bytes w mid new same made long =
     let k : IsPutTo (Some pos) bytes (file_of mid slot) (file_of new slot) =
     subst (λ (n : ℕ). IsPutTo (Some pos) bytes (file_of mid n) (file_of new n)) same (put_to other pos bytes mid new made) in
     (k.0, k.1 ∙ ap (λ (n : ℕ). max n (pos + aligned_up (length bytes))) long)
+
+-- a write, in whole or torn, is one write at most
+pub one_write : (slot pos : ℕ) (bytes : List ℕ) (old new : Seen) (r : Result (Unit {0}) Failed) → OnOk r (Makes (after_write slot pos bytes) old new) → OnErr r (MayMake (after_torn slot pos bytes) old new) → IsOneWrite slot bytes old new
+one_write slot pos bytes old new (Ok done) written torn told = inr (pos, inl (written told))
+one_write slot pos bytes old new (Err failed) written torn told = elim (torn told) [ inl half ↦ inr (pos, inr half) | inr stays ↦ inl stays ]
+
+-- so it is where nothing was done before
+pub one_after : (slot other : ℕ) (bytes : List ℕ) (old mid new : Seen) → (Tells old → Tells mid) → other ≡ slot → Stays old mid → IsOneWrite other bytes mid new → IsOneWrite slot bytes old new
+one_after slot other bytes old mid new tells same stays one told =
+    subst (λ (w : World). (new.world ≡ w) ⊎ ((pos : ℕ) × ((new.world ≡ after_write slot pos bytes w) ⊎ (new.world ≡ after_torn slot pos bytes w)))) (stays told)
+    (subst (λ (n : ℕ). (new.world ≡ mid.world) ⊎ ((pos : ℕ) × ((new.world ≡ after_write n pos bytes mid.world) ⊎ (new.world ≡ after_torn n pos bytes mid.world)))) same (one (tells told)))

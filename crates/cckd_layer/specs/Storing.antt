@@ -1,8 +1,8 @@
 -- How the bytes that are given to a write are stored.
-use Rattle.std.specs.Prelude.{ℕ, ◌≡◌, ◌-◌, ◌+◌, ◌/◌, ◌<◌, ◌≤◌, max, List, [], ◌++◌, length, replicate, Bool, true, false, Option, Some, None, Result, Ok, Err}
+use Rattle.std.specs.Prelude.{ℕ, ◌≡◌, ◌⊎◌, ◌-◌, ◌+◌, ◌/◌, ◌<◌, ◌≤◌, max, List, [], ◌++◌, length, replicate, Bool, true, false, Option, Some, None, Result, Ok, Err}
 use Rattle.std.specs.Option.{is_some, unwrap_or}
 use Rattle.cckd_shelf.specs.Seen.{Seen, Tells}
-use Rattle.cckd_shelf.specs.World.{file_of}
+use Rattle.cckd_shelf.specs.World.{file_of, after_write, after_torn}
 use Rattle.cckd_base.specs.declared.geometry.Geometry.{Geometry}
 use Rattle.cckd_base.specs.declared.geometry.Layout.{Layout}
 use Rattle.cckd_base.specs.declared.entry.L2Entry.{L2Entry}
@@ -28,7 +28,7 @@ use Rattle.cckd_base.specs.declared.layer_fault.LayerFault.{LayerFault}
 use Rattle.cckd_base.specs.declared.layer_fault.LayerFault.TheVariants as fault
 use Rattle.cckd_layer.specs.declared.writing.Prepared.{Prepared}
 use Rattle.cckd_layer.specs.Writes.{Agrees, AgreesWith, AgreesAgainWith, StoresIn, TakesClaim, claim_of, claims_of, entry_now}
-use Rattle.cckd_layer.specs.Preparing.{SuitsFile, LacksRoom}
+use Rattle.cckd_layer.specs.Preparing.{SuitsFile, LacksRoom, FindsRoom}
 
 -- the bytes that are stored: those given, or what they say
 abbrev pub stored_as : (List ℕ → List ℕ) → Form → List ℕ → List ℕ
@@ -65,6 +65,16 @@ IsPutTo None bytes was file = length file ≡ length was
 abbrev pub IsClaimed : Option ℕ → ℕ → List Extent → Type 0
 IsClaimed (Some pos) n claims = IsAmong (claim pos n) claims
 IsClaimed None n claims = Unit {0}
+
+-- at most one write of these bytes was done to the slot's file, in whole or in part, and nothing else
+abbrev pub IsOneWrite : ℕ → List ℕ → Seen → Seen → Type 0
+IsOneWrite slot bytes old new =
+    Tells old → (new.world ≡ old.world)
+    ⊎ ((pos : ℕ) × ((new.world ≡ after_write slot pos bytes old.world) ⊎ (new.world ≡ after_torn slot pos bytes old.world)))
+
+-- the places of a write of these bytes are there, on the layer's pieces as they are
+abbrev pub HasRoomFor : NullBytes → LayerState → ℕ → List ℕ → Type 0
+HasRoomFor null s t bytes = (st : Stored) → IsStoredOf null s.tables.layout.geo t bytes st → FindsRoom s t (need_of st)
 
 -- of the layer no more than the mark changed, and whether it is hardened
 abbrev pub IsMarkedFrom : LayerState → LayerState → Type 0

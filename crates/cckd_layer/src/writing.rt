@@ -17,7 +17,7 @@ ghost use Rattle.cckd_tables.specs.Stages.{free_count};
 ghost use Rattle.cckd_tables.specs.Looking.{HasAlignedTable};
 ghost use Rattle.cckd_layer.specs.Current.{claim, IsAmong};
 ghost use Rattle.cckd_layer.specs.Writes.{Agrees, AgreesIn, AgreesWith, KeepsMap, KeepsMapWith, StopsWithin, StopsWithinWith, IsAct, IsPut, IsSameFile, AgreesAgainWith, CanStage, StoresIn, CountsLayer, claim_of, entry_now, failed_by, is_broken_by};
-ghost use Rattle.cckd_layer.specs.Storing.{stored_as, padded, need_of, entry_of_stored, IsStoredOf, IsPutTo, IsClaimed, IsMarkedFrom, CanPlace, IsPrepared, IsStoreRefusal, IsWriteRefusal, IsHarmless, StoresTrack, breaks};
+ghost use Rattle.cckd_layer.specs.Storing.{stored_as, padded, need_of, entry_of_stored, IsStoredOf, IsPutTo, IsClaimed, IsOneWrite, HasRoomFor, IsMarkedFrom, CanPlace, IsPrepared, IsStoreRefusal, IsWriteRefusal, IsHarmless, StoresTrack, breaks};
 ghost use Rattle.cckd_base.specs.declared.fault.TrackFault.{TrackFault as Fault_of};
 ghost use Rattle.cckd_layer.specs.Preparing.{HasNoneToFree, IsRoom, IsDenial};
 ghost use Rattle.cckd_layer.specs.Marks.{WritesOrSyncs};
@@ -115,6 +115,7 @@ impl<U: Unit> Layer<U> {
         ensures stopped { (claims : List Space_of) → IsAmong (claim pos (aligned_up (length bytes.now))) claims
             → StopsWithinWith claims U.null_bytes self.old (seen T.Shows stage.old) (seen T.Shows stage.new) }
         ensures others { OnlyIn self.old.slot (seen T.Shows stage.old) (seen T.Shows stage.new) }
+        ensures alone { IsOneWrite self.old.slot (padded (stored_as U.value form bytes.now)) (seen T.Shows stage.old) (seen T.Shows stage.new) }
     {
         let count = fill_padded::<U>(form, bytes, self.buffer.as_mut_slice());
         let written = write_front(stage, self.slot, pos, self.buffer.as_slice(), count);
@@ -247,6 +248,7 @@ impl<U: Unit> Layer<U> {
         ensures broken { self.old.broken ≡ false → self.new.broken ≡ breaks result }
         ensures kind { IfErr result WritesOrSyncs }
         ensures counts { CountsDevice result (seen T.Shows stage.old).faults (seen T.Shows stage.new).faults }
+        ensures alone { self.old.marked ≡ true → IsOneWrite self.old.slot (padded (stored_as U.value form bytes.now)) (seen T.Shows stage.old) (seen T.Shows stage.new) }
     {
         if let Err(fault) = self.mark(stage) {
             return Err(fault);
@@ -318,6 +320,8 @@ impl<U: Unit> Layer<U> {
         ensures broken { self.new.broken ≡ is_broken_by result }
         ensures counts { CountsLayer result (seen T.Shows stage.old).faults (seen T.Shows stage.new).faults }
         ensures still { 2 ≤ free_count self.old.tables.stages → HasNoneToFree self.old.plan → 4 ≤ self.old.plan.spare → Stays (seen T.Shows stage.old) (seen T.Shows stage.new) }
+        ensures alone { Tells (seen T.Shows stage.old) → Agrees self.old (seen T.Shows stage.old).world → 2 ≤ free_count self.old.tables.stages → 4 ≤ self.old.plan.spare
+            → HasRoomFor U.null_bytes self.old t.0 (stored_as U.value form bytes.now) → Stays (seen T.Shows stage.old) (seen T.Shows stage.new) × (self.new.marked ≡ self.old.marked) }
     {
         if let Err(fault) = self.make_free_stages(stage) {
             return Err(fault);
@@ -355,6 +359,8 @@ impl<U: Unit> Layer<U> {
         ensures counts { CountsLayer result (seen T.Shows stage.old).faults (seen T.Shows stage.new).faults }
         ensures still { 2 ≤ free_count self.old.tables.stages → HasNoneToFree self.old.plan → 4 ≤ self.old.plan.spare
             → IfErr result (λ why. IsDenial why → Stays (seen T.Shows stage.old) (seen T.Shows stage.new)) }
+        ensures alone { Tells (seen T.Shows stage.old) → Agrees self.old (seen T.Shows stage.old).world → self.old.marked ≡ true → 2 ≤ free_count self.old.tables.stages → 4 ≤ self.old.plan.spare
+            → HasRoomFor U.null_bytes self.old t.0 (stored_as U.value form bytes.now) → IsOneWrite self.old.slot (padded (stored_as U.value form bytes.now)) (seen T.Shows stage.old) (seen T.Shows stage.new) }
     {
         let Prepared { old, stored, room } = match self.prepare(stage, t, form, bytes) {
             Ok(prepared) => prepared,
@@ -399,6 +405,10 @@ impl<U: Unit> Layer<U> {
         // At each operation a stop leaves what it could leave before, or the layer's map as it was, or something of both.
         ensures stopped { StopsWithin U.null_bytes self.old (seen T.Shows stage.old) (seen T.Shows stage.new) }
         ensures others { OnlyIn self.old.slot (seen T.Shows stage.old) (seen T.Shows stage.new) }
+
+        // Once the file is marked, where there are free stages and room, it is one write at most, and no sync.
+        ensures alone { Tells (seen T.Shows stage.old) → Agrees self.old (seen T.Shows stage.old).world → self.old.marked ≡ true → 2 ≤ free_count self.old.tables.stages → 4 ≤ self.old.plan.spare
+            → HasRoomFor U.null_bytes self.old t.0 bytes.now → IsOneWrite self.old.slot (padded bytes.now) (seen T.Shows stage.old) (seen T.Shows stage.new) }
     {
         self.store(stage, t, Form::Given, bytes)
     }
@@ -434,6 +444,10 @@ impl<U: Unit> Layer<U> {
         // At each operation a stop leaves what it could leave before, or the layer's map as it was, or something of both.
         ensures stopped { StopsWithin U.null_bytes self.old (seen T.Shows stage.old) (seen T.Shows stage.new) }
         ensures others { OnlyIn self.old.slot (seen T.Shows stage.old) (seen T.Shows stage.new) }
+
+        // Once the file is marked, where there are free stages and room, it is one write at most, and no sync.
+        ensures alone { Tells (seen T.Shows stage.old) → Agrees self.old (seen T.Shows stage.old).world → self.old.marked ≡ true → 2 ≤ free_count self.old.tables.stages → 4 ≤ self.old.plan.spare
+            → HasRoomFor U.null_bytes self.old t.0 (U.value bytes.now) → IsOneWrite self.old.slot (padded (U.value bytes.now)) (seen T.Shows stage.old) (seen T.Shows stage.new) }
     {
         let layout = self.tables.layout();
         if let Err(fault) = U::check(&layout.geo, t, bytes) {

@@ -9,7 +9,7 @@ use Rattle.cckd_layer.specs.Preparing.{IsNoRoomIn, SuitsFile}
 use Rattle.cckd_layer.proofs.CallerLemmas.{agrees_reads}
 use Rattle.cckd_layer.proofs.ThenLemmas.{act_still, act_then, maps_then, same_file_twice}
 use Rattle.cckd_layer.proofs.PrepareLemmas.{kept_unread, map_same, looked_same}
-use Rattle.cckd_layer.proofs.ReadyLemmas.{outside_refusal, no_room_refusal, prepared}
+use Rattle.cckd_layer.proofs.ReadyLemmas.{outside_refusal, no_room_refusal, prepared, ready_still}
 use Rattle.cckd_layer.proofs.layer.Layer.prepare.Goals as goal
 
 pub make_free_stages-requires-clause-can_read : goal.make_free_stages-requires-clause-can_read
@@ -130,3 +130,45 @@ returns-in-Err-find_places-clause-refusal g c =
     let value = stored_as g.U.Unit.value c.args.form c.args.bytes.now in
     let stored = subst (λ (l : Layout). IsStoredOf null l.geo c.args.t.0 value c.stored-stored.result) (sameF.layout ∙ c.make_free_stages.ensures.act.same.layout) c.stored-stored.ensures.stored in
     no_room_refusal null s n a e c.args.t.0 value c.stored-stored.result c.need.result c.in-Err-find_places.fault c.need.ensures stored c.in-Err-find_places.ensures.kind (λ told agrees. full told (map told agrees).agrees)
+
+pub returns-in-Ok-find_places-clause-alone : goal.returns-in-Ok-find_places-clause-alone
+returns-in-Ok-find_places-clause-alone g c = λ told agrees free spare room.
+    let null = g.U.Unit.null_bytes in
+    let s = c.args.self.now in
+    let m = c.make_free_stages.new.self in
+    let a = seen g.T.Shows c.args.stage.now in
+    let b = seen g.T.Shows c.make_free_stages.new.stage in
+    let f = c.find_entry.new.self in
+    let h = c.stored-stored.new.self in
+    let d = seen g.T.Shows c.find_entry.new.stage in
+    let sameF = looked_same m f f.tables.cached c.find_entry.ensures.rest in
+    let sameH = c.stored-stored.ensures.same in
+    let map = maps_then [] [] [] null s m f a b d (λ told. told) c.make_free_stages.ensures.act.same c.in_default.ensures.map c.find_entry.ensures.map in
+    let n = c.find_places.new.self in
+    let e = seen g.T.Shows c.find_places.new.stage in
+    let value = stored_as g.U.Unit.value c.args.form c.args.bytes.now in
+    let stored = subst (λ (l : Layout). IsStoredOf null l.geo c.args.t.0 value c.stored-stored.result) (sameF.layout ∙ c.make_free_stages.ensures.act.same.layout) c.stored-stored.ensures.stored in
+    let still = c.make_free_stages.ensures.still free in
+    ready_still null s m f h n a b d e c.args.t.0 c.stored-stored.result c.need.result value f.tables.cached (λ x. x) (λ x. x) still.1 still.2 c.find_entry.ensures.rest c.find_entry.ensures.reads.kept sameH c.need.ensures stored room spare
+    (λ x y. (map x y).agrees) c.find_places.ensures.finds told agrees
+
+pub returns-in-Err-find_places-clause-alone : goal.returns-in-Err-find_places-clause-alone
+returns-in-Err-find_places-clause-alone g c = λ told agrees free spare room.
+    let null = g.U.Unit.null_bytes in
+    let s = c.args.self.now in
+    let m = c.make_free_stages.new.self in
+    let a = seen g.T.Shows c.args.stage.now in
+    let b = seen g.T.Shows c.make_free_stages.new.stage in
+    let f = c.find_entry.new.self in
+    let h = c.stored-stored.new.self in
+    let d = seen g.T.Shows c.find_entry.new.stage in
+    let sameF = looked_same m f f.tables.cached c.find_entry.ensures.rest in
+    let sameH = c.stored-stored.ensures.same in
+    let map = maps_then [] [] [] null s m f a b d (λ told. told) c.make_free_stages.ensures.act.same c.in_default.ensures.map c.find_entry.ensures.map in
+    let n = c.find_places.new.self in
+    let e = seen g.T.Shows c.find_places.new.stage in
+    let value = stored_as g.U.Unit.value c.args.form c.args.bytes.now in
+    let stored = subst (λ (l : Layout). IsStoredOf null l.geo c.args.t.0 value c.stored-stored.result) (sameF.layout ∙ c.make_free_stages.ensures.act.same.layout) c.stored-stored.ensures.stored in
+    let still = c.make_free_stages.ensures.still free in
+    ready_still null s m f h n a b d e c.args.t.0 c.stored-stored.result c.need.result value f.tables.cached (λ x. x) (λ x. x) still.1 still.2 c.find_entry.ensures.rest c.find_entry.ensures.reads.kept sameH c.need.ensures stored room spare
+    (λ x y. (map x y).agrees) c.find_places.ensures.finds told agrees

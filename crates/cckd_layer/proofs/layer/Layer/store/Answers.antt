@@ -9,9 +9,10 @@ use Rattle.cckd_space.specs.Pieces.{aligned_up}
 use Rattle.cckd_tables.specs.Tables.{TableView}
 use Rattle.cckd_layer.specs.Mounted.{LayerState}
 use Rattle.cckd_layer.specs.Writes.{IsAct, KeepsMapWith, StoresIn, claim_of, claims_of}
-use Rattle.cckd_layer.specs.Storing.{stored_as, need_of, IsStoredOf, CanPlace}
+use Rattle.cckd_layer.specs.Storing.{stored_as, padded, need_of, IsStoredOf, CanPlace}
 use Rattle.cckd_layer.proofs.ThenLemmas.{act_still, act_then, maps_then}
 use Rattle.cckd_layer.proofs.PlacedLemmas.{stores_then}
+use Rattle.cckd_layer.proofs.StoreLemmas.{one_after}
 use Rattle.cckd_layer.proofs.StoredLemmas.{IsPut, noted, can_place, gives_stored, claimed_first, need_is}
 use Rattle.cckd_layer.proofs.layer.Layer.store.Goals as goal
 
@@ -109,3 +110,19 @@ returns-clause-stores g c = λ told agrees.
     let put = subst (λ (o : Option (List ℕ)). StoresIn [] null u n t o d d) gives (c.stage_places.ensures.map claim d can told) in
     let both = maps_then [] claims claims null s m u a b d (λ x. x) sameM map (c.in_default.ensures.map claims claimed) in
     stores_then [] null s u n t (Some value) a d d one.same (both told agrees).same put
+
+pub returns-in-Err-put_track-clause-alone : goal.returns-in-Err-put_track-clause-alone
+returns-in-Err-put_track-clause-alone g c = λ told agrees marked free spare room.
+    let s = c.args.self.now in
+    let m = c.prepare.new.self in
+    let value = stored_as g.U.Unit.value c.args.form c.args.bytes.now in
+    let p = c.prepare.ensures.alone told agrees free spare room in
+    one_after s.slot m.slot (padded value) (seen g.T.Shows c.args.stage.now) (seen g.T.Shows c.prepare.new.stage) (seen g.T.Shows c.put_track.new.stage) (λ x. x) c.prepare.ensures.act.same.slot p.0 (c.put_track.ensures.alone (p.1 ∙ marked))
+
+pub returns-clause-alone : goal.returns-clause-alone
+returns-clause-alone g c = λ told agrees marked free spare room.
+    let s = c.args.self.now in
+    let m = c.prepare.new.self in
+    let value = stored_as g.U.Unit.value c.args.form c.args.bytes.now in
+    let p = c.prepare.ensures.alone told agrees free spare room in
+    one_after s.slot m.slot (padded value) (seen g.T.Shows c.args.stage.now) (seen g.T.Shows c.prepare.new.stage) (seen g.T.Shows c.put_track.new.stage) (λ x. x) c.prepare.ensures.act.same.slot p.0 (c.put_track.ensures.alone (p.1 ∙ marked))
