@@ -217,10 +217,6 @@ fn open<U, T: Stage>(
     ensures cause { IfErr result (IsFileCause roles slot (seen T.Shows stage.old)) }
     ensures looks { OnlyLooks result (seen T.Shows stage.old) (seen T.Shows stage.new) }
 {
-    let buffer = match vec![in alloc; 0; BUFFER] {
-        Ok(buffer) => buffer,
-        Err(_) => return Err(OpenFault::Memory),
-    };
     let (found, used) = match examine(alloc, stage, slot, roles) {
         Ok(examined) => examined,
         Err(fault) => return Err(fault),
@@ -228,6 +224,10 @@ fn open<U, T: Stage>(
     let space = match plan(alloc, used.as_slice(), &found.layout, found.len, limit) {
         Ok(space) => space,
         Err(fault) => return Err(fault),
+    };
+    let buffer = match vec![in alloc; 0; BUFFER] {
+        Ok(buffer) => buffer,
+        Err(_) => return Err(OpenFault::Memory),
     };
     match load(alloc, stage, slot, &found.layout) {
         Ok(tables) => Ok(Layer {

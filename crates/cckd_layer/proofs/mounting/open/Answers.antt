@@ -1,5 +1,6 @@
 use Rattle.std.proofs.Common.{◌≤◌, ◌∙◌, true, false, List, length, refl, sym, ap, subst}
 use Rattle.cckd_base.specs.declared.space.Extent.{Extent}
+use Rattle.cckd_base.specs.declared.open_fault.OpenFault.TheVariants as open_fault
 use Rattle.cckd_base.specs.Geometry.{area_of}
 use Rattle.cckd_base.proofs.HeaderLemmas.{headed_area}
 use Rattle.cckd_image.specs.Image.{identifiers_of}
@@ -48,3 +49,7 @@ pub returns-clause-looks : goal.returns-clause-looks
 returns-clause-looks g c =
     err_looks _ _ c.in-Err-load.fault (seen g.T.Shows c.args.stage.now) (seen g.T.Shows c.examine.new.stage) (seen g.T.Shows c.load.new.stage) (λ told. told)
     c.in-Ok.ensures.looks.kept c.in-Ok.ensures.looks.counts c.in-Err-load.ensures.looks
+
+pub returns-in-Err-vec-clause-looks : goal.returns-in-Err-vec-clause-looks
+returns-in-Err-vec-clause-looks g c =
+    memory_looks _ open_fault.Memory (seen g.T.Shows c.args.stage.now) (seen g.T.Shows c.examine.new.stage) refl c.in-Ok.ensures.looks.kept c.in-Ok.ensures.looks.counts
