@@ -7,7 +7,7 @@ use Rattle.std.proofs.lemmas.Bool.{cases_eq, cases_lt, cond_both}
 use Rattle.std.proofs.lemmas.List.{get_or-set_other, get_or-set_same, length-set}
 use Rattle.std.proofs.lemmas.List.Edits.{length-remove, get_or-remove_below}
 use Rattle.std.proofs.Common.{max, add_assoc}
-use Rattle.std.proofs.lemmas.List.{append_assoc, append-nil, get_or-append_right, get_or-drop, length-take-le, length-map, length-drop, take_all, take_more, map-append, length-append, get_or-append-add, get_or_append_left}
+use Rattle.std.proofs.lemmas.List.{append_assoc, append-nil, get_or-append_right, get_or-drop, length-take-le, length-map, length-drop, map-append, length-append, get_or-append-add, get_or_append_left}
 use Rattle.cckd_base.specs.declared.space.Owner.TheVariants.{Nobody}
 use Rattle.cckd_space.specs.declared.piece.Kind.{Kind}
 use Rattle.cckd_space.specs.declared.piece.Kind.TheVariants.{Used, Free, Reserved, Leaving, Pending}

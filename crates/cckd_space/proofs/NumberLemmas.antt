@@ -1,13 +1,11 @@
 -- The numbers of a list of pieces that cover a file.
-use Rattle.std.proofs.Common.{◌≡◌, ℕ, zero, suc, ◌+◌, ◌-◌, ◌*◌, ◌<◌, ◌≤◌, nat_le, Bool, true, false, cond, ◌&&◌, max, List, [], ◌∷◌, ◌++◌, length, get_or, Some, None, refl, ap, arith, position}
+use Rattle.std.proofs.Common.{◌≡◌, ℕ, zero, suc, ◌+◌, ◌-◌, ◌*◌, ◌<◌, ◌≤◌, nat_le, Bool, true, false, cond, ◌&&◌, max, List, [], ◌∷◌, ◌++◌, length, get_or, Some, None, refl, arith, position}
 use Rattle.std.proofs.lemmas.Bool.{cond_both, leb-true, leb-false, and_parts, false_from_ne_true}
 use Rattle.cckd_base.specs.declared.space.Owner.TheVariants.{Nobody}
 use Rattle.cckd_space.specs.declared.piece.Kind.TheVariants.{Used, Free, Reserved, Leaving, Pending}
 use Rattle.cckd_space.specs.declared.piece.Piece.{Piece}
 use Rattle.cckd_space.specs.Pieces.{is_free, is_roomy, is_roomy_from, used_kind, free_kind, first, has_room, aligned_up, piece_end, offer, greatest, largest, summed, counted, used_len, roomy_len, IsFormedAs, IsLaid}
-use Rattle.cckd_space.specs.Plan.{free_from}
 use Rattle.cckd_space.proofs.LaidLemmas.{room_facts, laid_le}
-use Rattle.cckd_space.proofs.FirstLemmas.{is_first, first_at, none_passes}
 use Rattle.cckd_space.proofs.SearchLemmas.{no_position}
 
 pub greatest_ge : (f : Piece → ℕ) (xs : List Piece) (i : ℕ) (d : Piece) → i < length xs → f (get_or xs i d) ≤ greatest f xs

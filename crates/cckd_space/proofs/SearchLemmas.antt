@@ -6,7 +6,7 @@ use Rattle.std.proofs.lemmas.List.{get_or-take, get_or-drop, length-take, length
 use Rattle.cckd_base.specs.declared.space.Owner.TheVariants.{Nobody}
 use Rattle.cckd_space.specs.declared.piece.Kind.TheVariants.{Used}
 use Rattle.cckd_space.specs.declared.piece.Piece.{Piece}
-use Rattle.cckd_space.specs.Pieces.{begins_by, last, is_roomy, is_roomy_from, is_reserved_at, is_used_at, used_kind, reserved_kind, first, IsLaid}
+use Rattle.cckd_space.specs.Pieces.{begins_by, last, is_roomy, is_roomy_from, is_reserved_at, is_used_at, used_kind, reserved_kind, first}
 use Rattle.cckd_space.specs.Inside.{IsInOrder, StartsAt}
 use Rattle.cckd_space.proofs.FirstLemmas.{IsFirstAt, first_at, is_first, none_passes}
 

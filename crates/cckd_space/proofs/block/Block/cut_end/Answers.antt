@@ -1,4 +1,4 @@
-use Rattle.std.proofs.Common.{◌∙◌, ◌≡◌, true, false, List, sym, ap, subst, arith}
+use Rattle.std.proofs.Common.{◌∙◌, List, sym, ap, subst, arith}
 use Rattle.cckd_space.specs.declared.piece.Piece.{Piece}
 use Rattle.cckd_space.specs.Pieces.{largest}
 use Rattle.cckd_space.specs.Blocks.{AreMarked}

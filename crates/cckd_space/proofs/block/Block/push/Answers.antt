@@ -1,8 +1,8 @@
 use Rattle.std.proofs.Common.{◌++◌, ◌∷◌, ◌||◌, [], Bool, List, length, sym, ◌∙◌, ap, subst, arith}
 use Rattle.cckd_space.specs.declared.piece.Piece.{Piece}
 use Rattle.cckd_space.specs.Pieces.{is_leaving, is_pending, largest}
-use Rattle.cckd_space.specs.Blocks.{AreMarked, ends_free}
-use Rattle.cckd_space.proofs.BlockLemmas.{ends_with, largest_append, marked_both}
+use Rattle.cckd_space.specs.Blocks.{AreMarked}
+use Rattle.cckd_space.proofs.BlockLemmas.{largest_append, marked_both}
 use Rattle.cckd_space.proofs.BlockMarkLemmas.{marked_one}
 use Rattle.cckd_space.proofs.block.Block.push.Goals as goal
 

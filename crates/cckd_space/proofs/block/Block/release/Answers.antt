@@ -6,7 +6,6 @@ use Rattle.cckd_space.specs.Blocks.{AreMarked}
 use Rattle.cckd_space.proofs.BlockMarkLemmas.{block_released}
 use Rattle.cckd_space.proofs.MarkLemmas.{released_none}
 use Rattle.cckd_space.proofs.BlockLemmas.{size_of-released}
-use Rattle.cckd_space.specs.Blocks.{ends_free}
 use Rattle.cckd_space.proofs.block.Block.release.Goals as goal
 
 pub returns-then-not-self : goal.returns-then-not-self

@@ -4,7 +4,6 @@ use Rattle.cckd_space.specs.Pieces.{has_room, largest}
 use Rattle.cckd_space.specs.Blocks.{AreMarked}
 use Rattle.cckd_space.proofs.FirstLemmas.{none_passes}
 use Rattle.cckd_space.proofs.BlockMarkLemmas.{block_filled}
-use Rattle.cckd_space.specs.Blocks.{ends_free}
 use Rattle.cckd_space.proofs.block.Block.reserve.Goals as goal
 
 pub unreachable-requires : goal.unreachable-requires
