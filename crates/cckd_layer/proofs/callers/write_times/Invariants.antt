@@ -4,8 +4,8 @@ use Rattle.cckd_layer.specs.Callers.{written}
 use Rattle.cckd_layer.proofs.TogetherLemmas.{HasWritten}
 use Rattle.cckd_layer.proofs.callers.write_times.Given as goal
 
-abbrev pub invariant-loop-_time : goal.invariant-loop-_time
-invariant-loop-_time g l = record {
+abbrev pub invariant-loop-time : goal.invariant-loop-time
+invariant-loop-time g l = record {
   whole : l.layer.broken ≡ false;
-  so_far : HasWritten g.U.Unit.null_bytes (written g.U.Unit.value l.t.0 l.bytes.now) l.fn.layer l.layer (seen g.T.Shows l.fn.stage) (seen g.T.Shows l.stage);
+  so_far : HasWritten g.U.Unit.null_bytes (written g.U.Unit.value l.t.0 l.bytes) l.fn.layer l.layer (seen g.T.Shows l.fn.stage) (seen g.T.Shows l.stage);
 }
