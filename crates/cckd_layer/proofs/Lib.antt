@@ -44,5 +44,6 @@ pub mod StoredLemmas
 pub mod SurveyedLemmas
 pub mod SwapLemmas
 pub mod ThenLemmas
+pub mod TogetherLemmas
 pub mod TotalsLemmas
 pub mod WritesLemmas

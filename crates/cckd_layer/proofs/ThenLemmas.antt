@@ -60,7 +60,7 @@ maps_then before mid behind null s m n a b c tells same h k told agrees =
     }
 
 -- the same stretch, of another state of the layer
-within_as : (claims : List Extent) (null : NullBytes) (slot : ℕ) (l : Layout) (m : LayerState) (old new : Seen) → m.slot ≡ slot → m.tables.layout ≡ l → StopsWithinWith claims null m old new
+pub within_as : (claims : List Extent) (null : NullBytes) (slot : ℕ) (l : Layout) (m : LayerState) (old new : Seen) → m.slot ≡ slot → m.tables.layout ≡ l → StopsWithinWith claims null m old new
     → (d : Tracks) (later : List Later) → Tells old → AgreesWith claims m old.world → LiesWithin (track_count l.geo) d later (map_of null m old)
     → EachOutcome slot (Keeps null l d later) old.world.events → AtEach old.world.events new.world.events (EachOutcome slot (Keeps null l d later))
 within_as claims null slot l m old new at is h =

@@ -13,3 +13,4 @@ pub mod Mounted
 pub mod Writes
 pub mod Preparing
 pub mod Storing
+pub mod Callers

@@ -2,6 +2,8 @@
 #![tactic(auto)]
 
 mod agreeing;
+#[cfg(test)]
+mod callers;
 mod chaining;
 mod claiming;
 mod closing;
