@@ -48,7 +48,7 @@ track_within : (ps : List Pair) (t : ℕ) (old new : Option (List ℕ)) → (new
 track_within ps t old new (inl same) = inl same
 track_within ps t old new (inr later) = inr (later_among ps t new later)
 
-within_track : (ps : List Pair) (t : ℕ) (old new : Option (List ℕ)) → TrackLies t ps old new → (new ≡ old) ⊎ IsLater (laters_of ps) t new
+pub within_track : (ps : List Pair) (t : ℕ) (old new : Option (List ℕ)) → TrackLies t ps old new → (new ≡ old) ⊎ IsLater (laters_of ps) t new
 within_track ps t old new (inl same) = inl same
 within_track ps t old new (inr later) = inr (subst (IsLater (laters_of ps) t) (sym later.1) (among_later ps t later.0 later.2))
 

@@ -7,5 +7,8 @@ pub mod RowLemmas
 pub mod MountedLemmas
 pub mod FirstLemmas
 pub mod BridgeLemmas
+pub mod LastLemmas
+pub mod CalledLemmas
+pub mod WritesLemmas
 pub mod CountedLemmas
 pub mod CheckLemmas
