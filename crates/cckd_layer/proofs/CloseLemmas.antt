@@ -1,14 +1,14 @@
 -- Closing: the chain and the second header, at each operation and once they are there.
-use Rattle.std.proofs.Common.{◌≡◌, ℕ, List, Result, OnOk, OnErr, refl, ◌∙◌, ap, subst, inl}
+use Rattle.std.proofs.Common.{◌≡◌, ℕ, List, Result, OnOk, OnErr, refl, sym, ◌∙◌, ap, subst, inl}
 use Rattle.cckd_shelf.specs.declared.fault.Failed.{Failed}
 use Rattle.cckd_shelf.specs.Events.{Event}
 use Rattle.cckd_shelf.specs.Files.{overlaid}
-use Rattle.cckd_shelf.specs.World.{World, file_of, after_write, after_sync}
+use Rattle.cckd_shelf.specs.World.{World, IsSure, file_of, after_write, after_sync}
 use Rattle.cckd_shelf.specs.Seen.{Seen, Tells, Makes, Stays}
 use Rattle.cckd_shelf.specs.Outcomes.{EachOutcome}
 use Rattle.cckd_shelf.specs.Stops.{StopsLeave}
 use Rattle.cckd_shelf.proofs.MomentLemmas.{weaker, joins, at_end, then_synced}
-use Rattle.cckd_shelf.proofs.WorldLemmas.{now_wrote}
+use Rattle.cckd_shelf.proofs.WorldLemmas.{now_wrote, sure_wrote}
 use Rattle.cckd_base.specs.declared.order.Order.{Order}
 use Rattle.cckd_image.specs.declared.header.CckdHeader.{CckdHeader}
 use Rattle.cckd_image.specs.declared.header.ImageHeader.{ImageHeader}
@@ -48,3 +48,8 @@ pub closed_from : (slot : ℕ) (order : Order) (ps : List Piece) (bytes : List �
     → IsClosedFrom order ps c (file_of old.world slot) (file_of new.world slot)
 closed_from slot order ps bytes c old mid new spells chain made =
     (bytes, spells, ap (λ (w : World). file_of w slot) made ∙ (now_wrote slot 512 bytes mid.world (after_write slot 512 bytes mid.world) refl ∙ ap (λ (f : List ℕ). overlaid f 512 bytes) chain))
+
+-- no operation failed half way
+pub closed_sure : (slot : ℕ) (bytes : List ℕ) (mid new : Seen) → IsSure mid.world → new.world ≡ after_sync slot (after_write slot 512 bytes mid.world) → IsSure new.world
+closed_sure slot bytes mid new sure made =
+    subst IsSure (sym made) (sure_wrote slot 512 bytes mid.world (after_write slot 512 bytes mid.world) refl sure)

@@ -44,7 +44,7 @@ held_taken ps end pos n i laid h low high q there free = elim (laid_apart 0 ps e
 ]
 
 -- so a part of what is held is as it was
-free_part : (ps : List Piece) (end : ℕ) (was file : List ℕ) (pos n p m : ℕ) → IsLaid 0 ps end → ChangesFree ps end was file → IsHeld ps pos n → pos ≤ p → p + m ≤ pos + n → p + m ≤ length was → bytes_at file p m ≡ bytes_at was p m
+pub free_part : (ps : List Piece) (end : ℕ) (was file : List ℕ) (pos n p m : ℕ) → IsLaid 0 ps end → ChangesFree ps end was file → IsHeld ps pos n → pos ≤ p → p + m ≤ pos + n → p + m ≤ length was → bytes_at file p m ≡ bytes_at was p m
 free_part ps end was file pos n p m laid c h low high within =
     part_same was file p m within c.no_shorter (λ i from to. c.taken i (omega (arith, to, within)) (held_taken ps end pos n i laid h (omega (arith, from, low)) (omega (arith, to, high))))
 

@@ -10,9 +10,12 @@ pub mod CommittedLemmas
 pub mod CountLemmas
 pub mod GlanceLemmas
 pub mod CurrentLemmas
+pub mod EndedLemmas
 pub mod FillLemmas
+pub mod FinalLemmas
 pub mod FoundLemmas
 pub mod HeadLemmas
+pub mod LinkLemmas
 pub mod MarkLemmas
 pub mod MountLemmas
 pub mod NamedLemmas
@@ -32,5 +35,7 @@ pub mod StageLemmas
 pub mod StagedLemmas
 pub mod StandLemmas
 pub mod StepLemmas
+pub mod SurveyedLemmas
 pub mod SwapLemmas
+pub mod TotalsLemmas
 pub mod WritesLemmas

@@ -52,6 +52,12 @@ none_staged t h = false≢true h
 none_moved : (g : ℕ) → IsMoved g nothing_staged → ⊥
 none_moved g h = false≢true h
 
+-- nothing is placed where nothing is staged or claimed
+pub not_placed : (e : Extent) → IsPlaced nothing_staged [] e → ⊥
+not_placed e (inl (inl g)) = absurd (let named = g.1.named in cc)
+not_placed e (inl (inr t)) = absurd (let named = t.1.named in cc)
+not_placed e (inr none) = none
+
 module _ (l : Layout) (file : List ℕ) (found : IsFound l file) where
   layout : IsLayout l
   layout = headed_layout (identifiers_for l) l file found.headed
@@ -96,11 +102,6 @@ module _ (l : Layout) (file : List ℕ) (found : IsFound l file) where
   not_replaced : (e : Extent) → IsReplaced l nothing_staged file e → ⊥
   not_replaced e (inl g) = none_moved g.0 g.1
   not_replaced e (inr t) = none_staged t.0 t.1
-
-  not_placed : (e : Extent) → IsPlaced nothing_staged [] e → ⊥
-  not_placed e (inl (inl g)) = absurd (let named = g.1.named in cc)
-  not_placed e (inl (inr t)) = absurd (let named = t.1.named in cc)
-  not_placed e (inr none) = none
 
   -- and it is the file of a layer that has nothing staged and these pieces
   pub mounted_current : (limit spare : ℕ) → limit ≤ format_limit

@@ -7,6 +7,7 @@ use Rattle.cckd_image.specs.Image.{order_by, cckd_header_of}
 use Rattle.cckd_shelf.specs.World.{after_write, after_sync}
 use Rattle.cckd_shelf.specs.Seen.{Seen, Makes}
 use Rattle.cckd_tables.specs.declared.device.Device.{Device}
+use Rattle.cckd_tables.specs.declared.device.Device.TheVariants.{Read, Write, Sync}
 
 -- the bytes of a second header, behind whatever first one
 pub record SpellsSecond (bytes : List ℕ) (c : CckdHeader) : Type 0 where
@@ -30,3 +31,9 @@ MakesSecond slot bytes (Err fault) old new = Unit {0}
 pub record CalledTwice (old new : Seen) : Type 0 where
   pub fell : old.calls ≤ new.calls
   pub twice : new.calls ≤ old.calls + 2
+
+-- a fault of a call that writes or syncs
+abbrev pub WritesOrSyncs : Device → Type 0
+WritesOrSyncs Read = ⊥
+WritesOrSyncs Write = Unit {0}
+WritesOrSyncs Sync = Unit {0}

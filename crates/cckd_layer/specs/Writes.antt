@@ -7,6 +7,7 @@ use Rattle.cckd_shelf.specs.Seen.{Seen, Tells}
 use Rattle.cckd_shelf.specs.World.{World, file_of}
 use Rattle.cckd_shelf.specs.Outcomes.{EachOutcome, AtEach}
 use Rattle.cckd_shelf.specs.Frame.{OnlyIn}
+use Rattle.cckd_base.specs.declared.geometry.Layout.{Layout}
 use Rattle.cckd_base.specs.declared.layer_fault.LayerFault.{LayerFault}
 use Rattle.cckd_base.specs.declared.layer_fault.LayerFault.TheVariants as fault
 use Rattle.cckd_base.specs.declared.space.Full.{Full}
@@ -14,7 +15,7 @@ use Rattle.cckd_base.specs.declared.space.Extent.{Extent}
 use Rattle.cckd_base.specs.declared.entry.L2Entry.{L2Entry}
 use Rattle.cckd_base.specs.Geometry.{track_count}
 use Rattle.cckd_space.specs.Pieces.{counted, is_leaving, is_pending, merged, released}
-use Rattle.cckd_space.specs.Plan.{Plan, Becomes, IsSound}
+use Rattle.cckd_space.specs.Plan.{Plan, Becomes, IsSound, totals_of}
 use Rattle.cckd_tables.specs.declared.device.Device.{Device}
 use Rattle.cckd_tables.specs.declared.device.Device.TheVariants as device
 use Rattle.cckd_tables.specs.Staging.{Stages, new_entry}
@@ -31,7 +32,8 @@ use Rattle.cckd_layer.specs.Current.{claim, CanBeEntry}
 use Rattle.cckd_layer.specs.Puts.{IsReserved, HasNoRoom}
 use Rattle.cckd_layer.specs.declared.claiming.Places.{Places}
 use Rattle.cckd_layer.specs.Marks.{FitsLayout}
-use Rattle.cckd_layer.specs.Chain.{opened_header}
+use Rattle.cckd_layer.specs.Chain.{opened_header, closed_header}
+use Rattle.cckd_layer.specs.Closed.{IsClosed}
 
 -- what goes with the file of a layer that has claimed these places
 abbrev pub claimed_view : List Extent → LayerState → LayerView
@@ -161,6 +163,15 @@ IsPut old new = new ≡ record old { hardened = false }
 -- the layer is the same, but for the headers, which say that it was opened
 abbrev pub marked_layer : LayerState → LayerState
 marked_layer s = record s { header = opened_header s.header; marked = true }
+
+-- the layer is the same, but for the headers, which say that it was closed
+abbrev pub closed_layer : LayerState → LayerState
+closed_layer s = record s { header = closed_header (totals_of s.plan) s.header; marked = false }
+
+-- the file of a slot is that of a closed image, and a stop leaves it as it is
+pub record StaysClosed (l : Layout) (slot : ℕ) (w : World) : Type 0 where
+  pub closed : IsClosed l (file_of w slot)
+  pub alone : EachOutcome slot (λ file. file ≡ file_of w slot) w.events
 
 -- what was Pending is Free, and all that was written is on the disk for good
 pub record IsReleased (old new : LayerState) : Type 0 where

@@ -1,5 +1,5 @@
 //! The second header, which says whether an image was closed.
-ghost use Rattle.std.specs.Prelude.{◌≡◌, length, OnOk};
+ghost use Rattle.std.specs.Prelude.{◌≡◌, length, OnOk, IfErr};
 ghost use Rattle.cckd_shelf.specs.Seen.{seen, Tells};
 ghost use Rattle.cckd_shelf.specs.World.{IsSure, file_of};
 ghost use Rattle.cckd_shelf.specs.Outcomes.{EachOutcome};
@@ -8,7 +8,7 @@ ghost use Rattle.cckd_shelf.specs.Stops.{StopsLeave};
 ghost use Rattle.cckd_tables.specs.Device.{CountsDevice};
 ghost use Rattle.cckd_layer.specs.Changes.{IsRemarked};
 ghost use Rattle.cckd_layer.specs.Chain.{opened_header, closed_header};
-ghost use Rattle.cckd_layer.specs.Marks.{SpellsSecond, MakesSecond, CalledTwice};
+ghost use Rattle.cckd_layer.specs.Marks.{SpellsSecond, MakesSecond, CalledTwice, WritesOrSyncs};
 
 use cckd_image::ImageHeader;
 use cckd_shelf::{Shelf, Slot};
@@ -61,6 +61,7 @@ pub fn put_second<S: Shelf>(shelf: &mut S, slot: Slot, bytes: &[u8]) -> Result<(
     requires { length bytes.now ≡ 512 }
     ensures made { MakesSecond slot bytes.now result (seen S.Shows shelf.old) (seen S.Shows shelf.new) }
     ensures counts { CountsDevice result (seen S.Shows shelf.old).faults (seen S.Shows shelf.new).faults }
+    ensures kind { IfErr result WritesOrSyncs }
     ensures called { CalledTwice (seen S.Shows shelf.old) (seen S.Shows shelf.new) }
     ensures others { OnlyIn slot (seen S.Shows shelf.old) (seen S.Shows shelf.new) }
 
