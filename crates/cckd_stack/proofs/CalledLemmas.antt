@@ -1,6 +1,6 @@
 -- What a stack does when it is called, as the layered disk promises it of the call.
 use Rattle.std.proofs.Common.{◌≡◌, ℕ, Bool, true, false, List, [], ◌++◌, Option, Some, None, Result, Ok, Err, OnOk, IfErr, refl, sym, ◌∙◌, ap, subst}
-use Rattle.std.specs.Prelude.{if◌then◌else◌}
+use Rattle.std.specs.Prelude.{if◌then◌else◌, IsTrue}
 use Rattle.std.specs.Option.{option_map}
 use Rattle.std.proofs.lemmas.Bool.{false≢true}
 use Rattle.cckd_base.specs.declared.geometry.Geometry.{Geometry}
@@ -19,13 +19,13 @@ use Rattle.cckd_shelf.specs.Outcomes.{AtEach}
 use Rattle.cckd_shelf.proofs.MomentLemmas.{at_end, weaker}
 use Rattle.cckd_layer.specs.Writes.{IsOutside}
 use Rattle.cckd_stack.specs.Layers.{Stack, with_top, top}
-use Rattle.cckd_stack.specs.Answers.{Request, Pair, MayAnswer, answers, from_outside, plain, pair_by, pairs_written, with_pair, stacked, answered_stack, stack_after_call, is_refused, at_track}
+use Rattle.cckd_stack.specs.Answers.{Request, Pair, MayAnswer, IsAnswer, first_refusal, refusal_to, changes_files, answers, from_outside, plain, pair_by, pairs_written, with_pair, stacked, answered_stack, stack_after_call, is_refused, at_track}
 use Rattle.cckd_stack.specs.History.{refusal_breaks, reply_breaks}
 use Rattle.cckd_stack.specs.Stops.{Lies, LiesWithin, hardens}
 use Rattle.cckd_stack.specs.Moments.{EachOpens, Hardening, KeepsStops}
 use Rattle.cckd_stack.specs.Opened.{OpensTo}
 use Rattle.cckd_stack.specs.Stacked.{InLayer}
-use Rattle.cckd_stack.specs.Writes.{with_pair_on_top, reply_by, refusal_by, is_broken_by, asks_to_harden}
+use Rattle.cckd_stack.specs.Writes.{with_pair_on_top, reply_by, refusal_by, is_broken_by, OnlyHardens, asks}
 use Rattle.cckd_stack.proofs.HistoryLemmas.{lies_more, lies_within}
 use Rattle.cckd_stack.proofs.TopLemmas.{with_own}
 
@@ -64,33 +64,61 @@ module _ (g : Geometry) (was : Hardening) (r : Request) (said : Reply) (old new 
   unfolding AfterLies
   stops_hardened done settled = by_hardening true done settled
 
--- ---- the call that hardens
+-- ---- the calls that only harden
 
-pub harden_stack : (A : Type 0) (g : Geometry) (s : Stack) (given : List ℕ) (result : Result A StackFault)
-    → stack_after_call g s (asks_to_harden given) (reply_by reply.Hardened result) ≡ s
-harden_stack A g s given (Ok a) = with_own s
-harden_stack A g s given (Err why) = refl
+only_hardens : (P : Call → Reply → Type 0) → P call.Harden reply.Hardened → P call.Close reply.Closed → (c : Call) (done : Reply) → OnlyHardens c done → P c done
+only_hardens P harden close call.Harden done is = subst (P call.Harden) (sym is) harden
+only_hardens P harden close call.Close done is = subst (P call.Close) (sym is) close
+only_hardens P harden close (call.Read at) done is = absurd is
+only_hardens P harden close (call.Write at) done is = absurd is
+only_hardens P harden close (call.GetRecord at num) done is = absurd is
+only_hardens P harden close (call.PutRecord at num) done is = absurd is
+only_hardens P harden close call.Turn done is = absurd is
+only_hardens P harden close call.Add done is = absurd is
+only_hardens P harden close call.Merge done is = absurd is
+only_hardens P harden close call.Drop done is = absurd is
+only_hardens P harden close call.Compress done is = absurd is
+only_hardens P harden close call.Display done is = absurd is
+only_hardens P harden close (call.Check level) done is = absurd is
 
-pub harden_stops : (A : Type 0) (g : Geometry) (was : Hardening) (given : List ℕ) (result : Result A StackFault) (old new : List Event)
-    → AtEach old new (EachOpens g (Lies was.hard was.later)) → OnOk result (EachOpens g (Lies was.stack []) new)
-    → KeepsStops g was (asks_to_harden given) (reply_by reply.Hardened result) old new
-harden_stops A g was given (Ok a) old new lie settled =
-    stops_hardened g was (asks_to_harden given) reply.Hardened old new lie refl
-    (subst (λ (s : Stack). EachOpens g (Lies s []) new) (sym (with_own was.stack)) settled)
-harden_stops A g was given (Err why) old new lie settled =
-    stops_unhardened g was (asks_to_harden given) (reply.Refused (refusal_by why)) old new lie refl
+-- the stack stays
+done_stack : (g : Geometry) (s : Stack) (given : List ℕ) (c : Call) (done : Reply) → OnlyHardens c done → stack_after_call g s (asks c given) done ≡ s
+done_stack g s given = only_hardens (λ c done. stack_after_call g s (asks c given) done ≡ s) (with_own s) (with_own s)
 
-pub harden_answers : (A : Type 0) (g : Geometry) (s : Stack) (given : List ℕ) (result : Result A StackFault) → IfErr result (InLayer IsOutside)
-    → MayAnswer g s (asks_to_harden given) (plain (reply_by reply.Hardened result))
-harden_answers A g s given (Ok a) outside = answers refl refl
-harden_answers A g s given (Err (stack_fault.Layer (fault.Track why))) outside = absurd outside
-harden_answers A g s given (Err (stack_fault.Layer (fault.Full full))) outside = absurd outside
-harden_answers A g s given (Err (stack_fault.Layer fault.ReadFault)) outside = from_outside refusal.ReadFault refl refl
-harden_answers A g s given (Err (stack_fault.Layer fault.WriteFault)) outside = from_outside refusal.WriteFault (refl, refl) refl
-harden_answers A g s given (Err (stack_fault.Layer fault.SyncFault)) outside = from_outside refusal.SyncFault (refl, refl) refl
-harden_answers A g s given (Err (stack_fault.TooMany have)) outside = absurd outside
-harden_answers A g s given (Err stack_fault.OnlyBase) outside = absurd outside
-harden_answers A g s given (Err stack_fault.Memory) outside = absurd outside
+pub harden_stack : (A : Type 0) (g : Geometry) (s : Stack) (given : List ℕ) (c : Call) (done : Reply) (result : Result A StackFault) → OnlyHardens c done
+    → stack_after_call g s (asks c given) (reply_by done result) ≡ s
+harden_stack A g s given c done (Ok a) is = done_stack g s given c done is
+harden_stack A g s given c done (Err why) is = refl
+
+pub harden_stops : (A : Type 0) (g : Geometry) (was : Hardening) (given : List ℕ) (c : Call) (done : Reply) (result : Result A StackFault) (old new : List Event) → OnlyHardens c done
+    → AtEach old new (EachOpens g (Lies was.hard was.later)) → OnOk result (EachOpens g (Lies was.stack []) new) → KeepsStops g was (asks c given) (reply_by done result) old new
+harden_stops A g was given c done (Ok a) old new is lie settled =
+    stops_hardened g was (asks c given) done old new lie (only_hardens (λ c done. hardens c done ≡ true) refl refl c done is)
+    (subst (λ (s : Stack). EachOpens g (Lies s []) new) (sym (done_stack g was.stack given c done is)) settled)
+harden_stops A g was given c done (Err why) old new is lie settled =
+    stops_unhardened g was (asks c given) (reply.Refused (refusal_by why)) old new lie refl
+
+-- ---- answers
+
+-- a call that nothing refuses answers, or is refused for a fault from outside
+outside_answers : (A : Type 0) (g : Geometry) (s : Stack) (r : Request) (done : Reply) (result : Result A StackFault) → first_refusal g s r ≡ None → refusal_to g s r ≡ None
+    → IsTrue (changes_files r.asked) → IsAnswer g s r (plain done) → IfErr result (InLayer IsOutside) → MayAnswer g s r (plain (reply_by done result))
+outside_answers A g s r done (Ok a) first none changes is outside = answers none is
+outside_answers A g s r done (Err (stack_fault.Layer (fault.Track why))) first none changes is outside = absurd outside
+outside_answers A g s r done (Err (stack_fault.Layer (fault.Full full))) first none changes is outside = absurd outside
+outside_answers A g s r done (Err (stack_fault.Layer fault.ReadFault)) first none changes is outside = from_outside refusal.ReadFault first refl
+outside_answers A g s r done (Err (stack_fault.Layer fault.WriteFault)) first none changes is outside = from_outside refusal.WriteFault (changes, none) refl
+outside_answers A g s r done (Err (stack_fault.Layer fault.SyncFault)) first none changes is outside = from_outside refusal.SyncFault (changes, none) refl
+outside_answers A g s r done (Err (stack_fault.TooMany have)) first none changes is outside = absurd outside
+outside_answers A g s r done (Err stack_fault.OnlyBase) first none changes is outside = absurd outside
+outside_answers A g s r done (Err stack_fault.Memory) first none changes is outside = absurd outside
+
+pub harden_answers : (A : Type 0) (g : Geometry) (s : Stack) (given : List ℕ) (c : Call) (done : Reply) (result : Result A StackFault) → OnlyHardens c done → IfErr result (InLayer IsOutside)
+    → MayAnswer g s (asks c given) (plain (reply_by done result))
+harden_answers A g s given c done result is outside =
+    only_hardens (λ c done. MayAnswer g s (asks c given) (plain (reply_by done result)))
+    (outside_answers A g s (asks call.Harden given) reply.Hardened result refl refl refl refl outside)
+    (outside_answers A g s (asks call.Close given) reply.Closed result refl refl refl refl outside) c done is
 
 -- ---- whether a reply breaks
 

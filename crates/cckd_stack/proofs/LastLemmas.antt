@@ -146,7 +146,7 @@ slot_of_layers null files lower x =
 
 -- ---- what is made of another slot's file doesn't concern a layer
 
-beside : (s : LayerState) (slot : ℕ) (old new : World) → (slot ≡ s.slot → ⊥) → IsSure new → SparesOthers slot old new → Agrees s old → Agrees s new
+pub beside : (s : LayerState) (slot : ℕ) (old new : World) → (slot ≡ s.slot → ⊥) → IsSure new → SparesOthers slot old new → Agrees s old → Agrees s new
 beside s slot old new apart sure spares a =
     let still : OthersStill slot old.events new.events = at_end (OthersStill slot old.events) old.events new.events spares.others in
     let file : file_of old s.slot ≡ file_of new s.slot = sym (spares.files s.slot apart) in

@@ -10,5 +10,7 @@ pub mod BridgeLemmas
 pub mod LastLemmas
 pub mod CalledLemmas
 pub mod WritesLemmas
+pub mod LowerLemmas
+pub mod CloseLemmas
 pub mod CountedLemmas
 pub mod CheckLemmas

@@ -45,11 +45,11 @@ begins_as (shadow layer lower) l file h = sym (ap (λ (b : Bool). cond b shadow_
 
 -- ---- the map of one layer
 
-map_low : (null : NullBytes) (s : LayerState) (file : List ℕ) (t : ℕ) → t < track_count s.tables.layout.geo
+pub map_low : (null : NullBytes) (s : LayerState) (file : List ℕ) (t : ℕ) → t < track_count s.tables.layout.geo
     → map_of null s file t ≡ held null s.tables.layout s.tables.stages file t
 map_low null s file t low = rw (lt-ltb t (track_count s.tables.layout.geo) low)
 
-map_high : (null : NullBytes) (s : LayerState) (file : List ℕ) (t : ℕ) → track_count s.tables.layout.geo ≤ t → map_of null s file t ≡ None
+pub map_high : (null : NullBytes) (s : LayerState) (file : List ℕ) (t : ℕ) → track_count s.tables.layout.geo ≤ t → map_of null s file t ≡ None
 map_high null s file t high = rw (le-ltb t (track_count s.tables.layout.geo) high)
 
 module _ (null : NullBytes) (x y : LayerState) (old new : List ℕ) (layout : y.tables.layout ≡ x.tables.layout) where

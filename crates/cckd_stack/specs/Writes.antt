@@ -2,6 +2,7 @@
 use Rattle.std.specs.Prelude.{ℕ, ◌≡◌, Bool, true, false, List, [], ◌∷◌, ◌++◌, Result, Ok, Err}
 use Rattle.std.specs.List.{AllByRecursion}
 use Rattle.cckd_base.specs.declared.geometry.Geometry.{Geometry}
+use Rattle.cckd_base.specs.declared.call.Call.{Call}
 use Rattle.cckd_base.specs.declared.call.Call.TheVariants as call
 use Rattle.cckd_base.specs.declared.reply.Reply.{Reply}
 use Rattle.cckd_base.specs.declared.reply.Reply.TheVariants as reply
@@ -14,10 +15,11 @@ use Rattle.cckd_base.specs.declared.layer_fault.StackFault.TheVariants as stack_
 use Rattle.cckd_base.specs.Track.{null_track}
 use Rattle.cckd_shelf.specs.Seen.{Seen, Tells}
 use Rattle.cckd_shelf.specs.World.{World, file_of}
-use Rattle.cckd_shelf.specs.Outcomes.{AtEach}
+use Rattle.cckd_shelf.specs.Events.{name_of, output_of}
+use Rattle.cckd_shelf.specs.Outcomes.{IsOutcome, EachOutcome, AtEach}
 use Rattle.cckd_layer.specs.Held.{NullBytes}
 use Rattle.cckd_layer.specs.Mounted.{LayerState}
-use Rattle.cckd_layer.specs.Writes.{Agrees}
+use Rattle.cckd_layer.specs.Writes.{Agrees, IsSameFile, StaysClosed}
 use Rattle.cckd_stack.specs.Layers.{Stack, top, with_top, with_track}
 use Rattle.cckd_stack.specs.Answers.{Request, Pair}
 use Rattle.cckd_stack.specs.Stops.{Lies}
@@ -71,6 +73,44 @@ pub record ChangesLast (P : LayerState → LayerState → Type 0) (old new : Lis
   pub old_is : old ≡ lower ++ was ∷ []
   pub new_is : new ≡ lower ++ next ∷ []
   pub changes : P was next
+
+-- ---- layers that were changed
+
+-- each layer agrees with its file, as far as that is told
+abbrev pub AgreeIn : List LayerState → Seen → Type 0
+AgreeIn layers s = Tells s → AgreeAll layers s.world
+
+-- a layer wasn't changed since it was mounted or closed, and has nothing that isn't on the disk for good
+pub record IsUnchanged (s : LayerState) : Type 0 where
+  pub unmarked : s.marked ≡ false
+  pub hardened : s.hardened ≡ true
+
+-- a slot has no layer that was changed
+abbrev pub HasNoChange : List LayerState → ℕ → Type 0
+HasNoChange layers slot = AllByRecursion (λ s. s.slot ≡ slot → IsUnchanged s) layers
+
+-- Nothing is done but to the files of layers that were changed: at each operation every outcome of another slot was one before.
+-- Each slot keeps its name, and each other one its file; nothing is taken and nothing is put.
+pub record SparesUnchanged (layers : List LayerState) (old new : World) : Type 0 where
+  pub others : AtEach old.events new.events (λ es. (slot : ℕ) → HasNoChange layers slot → EachOutcome slot (IsOutcome old.events slot) es)
+  pub names : (slot : ℕ) → name_of new.events slot ≡ name_of old.events slot
+  pub files : (slot : ℕ) → HasNoChange layers slot → file_of new slot ≡ file_of old slot
+  pub script : new.script ≡ old.script
+  pub output : output_of new.events ≡ output_of old.events
+
+-- the same of what is shown
+abbrev pub OnlyInChanged : List LayerState → Seen → Seen → Type 0
+OnlyInChanged layers old new = Tells old → SparesUnchanged layers old.world new.world
+
+-- the file of each layer that was changed is that of a closed image, and a stop leaves it as it is
+abbrev pub ChangedAreClosed : List LayerState → Seen → Type 0
+ChangedAreClosed layers s = Tells s → AllByRecursion (λ layer. layer.marked ≡ true → StaysClosed layer.tables.layout layer.slot s.world) layers
+
+-- the layers are of the same files, one by one
+abbrev pub AreSameFiles : List LayerState → List LayerState → Type 0
+AreSameFiles [] [] = Unit {0}
+AreSameFiles (s ∷ ss) (n ∷ ns) = IsSameFile s n × AreSameFiles ss ns
+AreSameFiles _ _ = ⊥
 
 -- ---- stops
 
@@ -130,6 +170,12 @@ abbrev pub is_broken_by : {A : Type 0} → Result A StackFault → Bool
 is_broken_by (Err (stack_fault.Layer why)) = breaks_layer why
 is_broken_by _ = false
 
--- the call that hardens, whatever bytes come with it
-abbrev pub asks_to_harden : List ℕ → Request
-asks_to_harden given = record { asked = call.Harden; given = given }
+-- a call, with bytes that it gives
+abbrev pub asks : Call → List ℕ → Request
+asks c given = record { asked = c; given = given }
+
+-- the calls that harden and leave the stack as it is, with their answers
+abbrev pub OnlyHardens : Call → Reply → Type 0
+OnlyHardens call.Harden said = said ≡ reply.Hardened
+OnlyHardens call.Close said = said ≡ reply.Closed
+OnlyHardens _ said = ⊥

@@ -4,7 +4,6 @@ ghost use Rattle.cckd_base.specs.declared.geometry.Geometry.{Geometry as Shape};
 ghost use Rattle.cckd_base.specs.declared.geometry.Layout.{Layout};
 ghost use Rattle.cckd_base.specs.declared.call.Call.{Call as Asked};
 ghost use Rattle.cckd_base.specs.declared.reply.Reply.{Reply as Said};
-ghost use Rattle.cckd_base.specs.declared.reply.Reply.TheVariants.{Hardened};
 ghost use Rattle.cckd_base.specs.declared.reply.Refusal.TheVariants.{ReadFault};
 ghost use Rattle.cckd_base.specs.declared.layer_fault.StackFault.{StackFault as Fault};
 ghost use Rattle.cckd_base.specs.Geometry.{track_count};
@@ -26,7 +25,7 @@ ghost use Rattle.cckd_stack.specs.Opened.{Opens};
 ghost use Rattle.cckd_stack.specs.Tops.{HoldsLies, laters_of};
 ghost use Rattle.cckd_stack.specs.Stacked.{StackState, IsStack, AreLayersFrom, InLayer, stack_of};
 ghost use Rattle.cckd_stack.specs.Mounting.{IsMounted, AreFreshFrom};
-ghost use Rattle.cckd_stack.specs.Writes.{KeepsStack, StoresOnTop, HasHardening, StopsLie, StopsSettle, with_pair_on_top, all_hardened, with_written, reply_by, is_broken_by, asks_to_harden};
+ghost use Rattle.cckd_stack.specs.Writes.{KeepsStack, StoresOnTop, HasHardening, StopsLie, StopsSettle, with_pair_on_top, all_hardened, with_written, reply_by, is_broken_by, OnlyHardens, asks};
 
 /// The files open to the stack that is mounted of them.
 pub fn mounted_opens()
@@ -75,13 +74,14 @@ pub fn stops_are_kept()
         → hardens r.asked said ≡ true → EachOpens g (Lies (stack_after_call g was.stack r said) []) new → KeepsStops g was r said old new }
 {}
 
-/// A stack that hardens does what the layered disk promises of the call.
+/// A stack that hardens or closes does what the layered disk promises of the call.
 pub fn hardening_is_answered()
-    ensures answer { (g : Shape) (s : Layered) (given : List ℕ) (result : Result (Unit {0}) Fault) → IfErr result (InLayer IsOutside)
-        → MayAnswer g s (asks_to_harden given) (plain (reply_by Hardened result)) }
-    ensures layers { (g : Shape) (s : Layered) (given : List ℕ) (result : Result (Unit {0}) Fault) → stack_after_call g s (asks_to_harden given) (reply_by Hardened result) ≡ s }
-    ensures stops { (g : Shape) (was : Hardening) (given : List ℕ) (result : Result (Unit {0}) Fault) (old new : List Event) → AtEach old new (EachOpens g (Lies was.hard was.later))
-        → OnOk result (EachOpens g (Lies was.stack []) new) → KeepsStops g was (asks_to_harden given) (reply_by Hardened result) old new }
+    ensures answer { (g : Shape) (s : Layered) (given : List ℕ) (c : Asked) (done : Said) (result : Result (Unit {0}) Fault) → OnlyHardens c done → IfErr result (InLayer IsOutside)
+        → MayAnswer g s (asks c given) (plain (reply_by done result)) }
+    ensures layers { (g : Shape) (s : Layered) (given : List ℕ) (c : Asked) (done : Said) (result : Result (Unit {0}) Fault) → OnlyHardens c done
+        → stack_after_call g s (asks c given) (reply_by done result) ≡ s }
+    ensures stops { (g : Shape) (was : Hardening) (given : List ℕ) (c : Asked) (done : Said) (result : Result (Unit {0}) Fault) (old new : List Event) → OnlyHardens c done
+        → AtEach old new (EachOpens g (Lies was.hard was.later)) → OnOk result (EachOpens g (Lies was.stack []) new) → KeepsStops g was (asks c given) (reply_by done result) old new }
 {}
 
 /// A call breaks the layered disk where it breaks the stack, unless a fault of reading breaks it; and one that writes a pair and
