@@ -1,14 +1,13 @@
 -- Layers closed one after another, the last one first.
-use Rattle.std.proofs.Common.{◌≡◌, ◌≢◌, ◌⊎◌, ⊎_elim, ℕ, zero, suc, ◌+◌, ◌<◌, ◌≤◌, Bool, true, false, List, [], ◌∷◌, length, drop, get_or, set, Result, Ok, Err, OnOk, IfErr, refl, sym, ◌∙◌, ap, subst, inl, inr, arith}
+use Rattle.std.proofs.Common.{◌≡◌, ◌≢◌, ◌⊎◌, ⊎_elim, ℕ, zero, suc, ◌+◌, ◌<◌, ◌≤◌, Bool, true, false, List, [], ◌∷◌, ◌++◌, length, drop, get_or, set, refl, sym, ◌∙◌, ap, subst, inl, inr, arith}
 use Rattle.std.specs.List.{AllByRecursion}
 use Rattle.std.proofs.Math.Seq.{drop-cons, drop-length}
 use Rattle.std.proofs.lemmas.Bool.{false≢true, cases_lt, cases_Bool}
-use Rattle.std.proofs.lemmas.List.{drop-set, get_or-set_other, length-set}
+use Rattle.std.proofs.lemmas.List.{drop-set, set-get_or, get_or-set_other}
 use Rattle.cckd_base.specs.declared.geometry.Geometry.{Geometry}
 use Rattle.cckd_base.specs.declared.geometry.Layout.{Layout}
-use Rattle.cckd_base.specs.declared.layer_fault.LayerFault.{LayerFault}
 use Rattle.cckd_shelf.specs.declared.fault.Faults.{Faults}
-use Rattle.cckd_shelf.specs.Events.{Event}
+use Rattle.cckd_shelf.specs.Events.{Event, Written, Torn, Cut, HalfCut, Synced, Put, Bound, is_sure}
 use Rattle.cckd_shelf.specs.Seen.{Seen, Tells}
 use Rattle.cckd_shelf.specs.World.{World, file_of}
 use Rattle.cckd_shelf.specs.Outcomes.{IsOutcome, EachOutcome, OthersStill, AtEach}
@@ -17,13 +16,13 @@ use Rattle.cckd_shelf.proofs.MomentLemmas.{at_once, at_end, joins, weaker}
 use Rattle.cckd_shelf.proofs.FrameLemmas.{other_keeps}
 use Rattle.cckd_layer.specs.Closed.{IsClosed}
 use Rattle.cckd_layer.specs.Held.{NullBytes}
-use Rattle.cckd_layer.specs.Mounted.{LayerState}
+use Rattle.cckd_layer.specs.Mounted.{LayerState, ReadsFrom, CanRead}
 use Rattle.cckd_layer.specs.Writes.{Agrees, KeepsMap, StopsWithin, StopHolds, IsSameFile, StaysClosed}
 use Rattle.cckd_stack.specs.Layers.{Stack}
 use Rattle.cckd_stack.specs.Stops.{Lies}
 use Rattle.cckd_stack.specs.Moments.{EachOpens, Hardening}
-use Rattle.cckd_stack.specs.Stacked.{IsLayerIn, AreLayersFrom, AreWhole}
-use Rattle.cckd_stack.specs.Writes.{AgreeAll, AgreeIn, AreStack, KeepsStack, IsUnchanged, HasNoChange, SparesUnchanged, OnlyInChanged, ChangedAreClosed, AreSameFiles, HasHardening, StopsLie, StopsSettle, all_hardened}
+use Rattle.cckd_stack.specs.Stacked.{IsLayerIn, AreLayersFrom, AreWhole, CanReadAll}
+use Rattle.cckd_stack.specs.Writes.{AgreeAll, AreStack, KeepsStack, IsUnchanged, AreUnchanged, HasNoChange, SparesUnchanged, OnlyInChanged, IsClosedIn, AreSameFiles, HasHardening, StopsLie, StopsSettle, all_hardened}
 use Rattle.cckd_stack.proofs.LayerListLemmas.{all_at, all_set, layer_at}
 use Rattle.cckd_stack.proofs.CalledLemmas.{opens_weaker}
 use Rattle.cckd_stack.proofs.WritesLemmas.{set_lies, set_settles, kept_hardening, settled_hardening}
@@ -124,9 +123,6 @@ closed_on l at slot a b apart h closed =
       alone = subst (λ (f : List ℕ). EachOutcome slot (λ g. g ≡ f) b.events) file (other_keeps (λ (g : List ℕ). g ≡ file_of a slot) at slot a.events b.events apart still closed.alone);
     }
 
-abbrev IsClosedIn : World → LayerState → Type 0
-IsClosedIn w s = s.marked ≡ true → StaysClosed s.tables.layout s.slot w
-
 closed_above : (g : Geometry) (at slot : ℕ) (layers : List LayerState) (a b : World) → at < slot → AreLayersFrom g slot layers → SparesOthers at a b → AllByRecursion (IsClosedIn a) layers
     → AllByRecursion (IsClosedIn b) layers
 closed_above g at slot [] a b low are h all = tt
@@ -156,6 +152,25 @@ any_lies null g layers n x old new is low are others stopped = λ was has. ⊎_e
     set_lies layers n x x is (omega (arith, low, end)) null g old new are (record { slot = refl; layout = refl; limit = refl }) others stopped was has)
     (cases_lt (suc n) (length layers))
 
+-- ---- reading goes on
+
+sure_before : (newer old : List Event) → is_sure (newer ++ old) ≡ true → is_sure old ≡ true
+sure_before [] old sure = sure
+sure_before (Written slot position bytes ∷ newer) old sure = sure_before newer old sure
+sure_before (Torn slot position bytes ∷ newer) old sure = absurd (false≢true sure)
+sure_before (Cut slot len ∷ newer) old sure = sure_before newer old sure
+sure_before (HalfCut slot len ∷ newer) old sure = absurd (false≢true sure)
+sure_before (Synced slot ∷ newer) old sure = sure_before newer old sure
+sure_before (Put bytes ∷ newer) old sure = sure_before newer old sure
+sure_before (Bound slot name bytes ∷ newer) old sure = sure_before newer old sure
+
+-- a layer can be read where only another slot's file was changed
+read_beside : (s : LayerState) (at : ℕ) (old new : Seen) → (Tells new → Tells old) → OnlyIn at old new → (at ≡ s.slot → ⊥) → CanRead s old → CanRead s new
+read_beside s at old new tells others apart can = λ told sure.
+    let h = others (tells told) in
+    let grown : is_sure (h.others.newer ++ old.world.events) ≡ true = subst (λ (es : List Event). is_sure es ≡ true) h.others.grown sure in
+    subst (ReadsFrom s.tables) (sym (h.files s.slot apart)) (can (tells told) (sure_before h.others.newer old.world.events grown))
+
 -- ---- some layers were closed
 
 -- Those from a number on were closed, the last one first, and nothing failed. Those below are as before.
@@ -168,14 +183,16 @@ pub record HasClosed (null : NullBytes) (g : Geometry) (start now : List LayerSt
   pub lies : StopsLie null g start a b
   pub settled : left < length start → StopsSettle null g start a b
   pub spares : OnlyInChanged start a b
-  pub closed : ChangedAreClosed (drop left start) b
+  pub closed : Tells a → AgreeAll start a.world → AllByRecursion (IsClosedIn b.world) (drop left start)
+  pub reads : (i : ℕ) (d : LayerState) → i < left → i < length start → CanRead (get_or start i d) b
+  pub still : AreUnchanged start → (now ≡ start) × (b ≡ a)
   pub unchanged : AllByRecursion IsUnchanged (drop left now)
   pub counts : b.faults ≡ a.faults
 
 -- before any was
-pub none_closed : (null : NullBytes) (g : Geometry) (start : List LayerState) (a : Seen) (left : ℕ) → left ≡ length start → AreLayersFrom g 0 start → AreWhole start
+pub none_closed : (null : NullBytes) (g : Geometry) (start : List LayerState) (a : Seen) (left : ℕ) → left ≡ length start → AreLayersFrom g 0 start → AreWhole start → CanReadAll start a
     → HasClosed null g start start a a left
-none_closed null g start a left e are whole =
+none_closed null g start a left e are whole can =
     let none : drop left start ≡ [] = ap (λ (k : ℕ). drop k start) e ∙ drop-length start in
     record {
       slots = are;
@@ -186,7 +203,9 @@ none_closed null g start a left e are whole =
       lies = λ was has. at_once (EachOpens g (Lies was.hard was.later)) a.world.events has.hardened.stops;
       settled = λ low. absurd (omega (arith, e, low));
       spares = λ told. spares_none start a.world;
-      closed = λ told. subst (AllByRecursion (IsClosedIn a.world)) (sym none) tt;
+      closed = λ told agree. subst (AllByRecursion (IsClosedIn a.world)) (sym none) tt;
+      reads = λ i d low inside. all_at (λ (s : LayerState). CanRead s a) start i d can inside;
+      still = λ calm. (refl, refl);
       unchanged = subst (AllByRecursion IsUnchanged) (sym none) tt;
       counts = refl;
     }
@@ -200,14 +219,20 @@ module _ (null : NullBytes) (g : Geometry) (start now : List LayerState) (a b : 
     pub whole_here : x.broken ≡ false
     whole_here = subst (λ (s : LayerState). s.broken ≡ false) (sym is) (all_at (λ (s : LayerState). s.broken ≡ false) now n x was.whole inside)
 
-    pub agrees_here : AgreeIn start a → Tells a → Agrees x b.world
-    agrees_here agree told =
+    agrees_here : Tells a → AgreeAll start a.world → Agrees x b.world
+    agrees_here told agree =
         subst (λ (s : LayerState). Agrees s b.world) (sym is)
-        (all_at (λ (s : LayerState). Agrees s b.world) now n x (was.keeps told (agree told)).agree inside)
+        (all_at (λ (s : LayerState). Agrees s b.world) now n x (was.keeps told agree).agree inside)
 
     -- it is as it was at the start
     at_start : x ≡ get_or start n x
     at_start = is ∙ was.below n x (omega (arith, next))
+
+    pub reads_here : CanRead x b
+    reads_here = subst (λ (s : LayerState). CanRead s b) (sym at_start) (was.reads n x (omega (arith, next)) low)
+
+    pub unchanged_now : AreUnchanged start → IsUnchanged x
+    unchanged_now calm = subst IsUnchanged (sym at_start) (all_at IsUnchanged start n x calm low)
 
     place : IsLayerIn g n x
     place = subst (IsLayerIn g n) (sym is) (layer_at g n 0 now n x (omega arith) was.slots inside)
@@ -250,17 +275,33 @@ module _ (null : NullBytes) (g : Geometry) (start now : List LayerState) (a b : 
           set_settles now n x y is (omega (arith, long, next, low, last)) null g b c was.slots same others holds had then)
           (cases_lt left (length start))
 
-      next_closed : AreLayersFrom g 0 start → AgreeIn start a → (Tells b → Agrees x b.world → x.marked ≡ true → StaysClosed x.tables.layout x.slot c.world) → ChangedAreClosed (drop n start) c
-      next_closed are agree closed = λ told.
-          let told_start = back told in
-          let spares : SparesOthers n b.world c.world = subst (λ (k : ℕ). SparesOthers k b.world c.world) place.slot_is (others (tells told_start)) in
+      next_closed : AreLayersFrom g 0 start → (Tells b → Agrees x b.world → x.marked ≡ true → StaysClosed x.tables.layout x.slot c.world) → Tells a → AgreeAll start a.world
+          → AllByRecursion (IsClosedIn c.world) (drop n start)
+      next_closed are closed = λ told agree.
+          let spares : SparesOthers n b.world c.world = subst (λ (k : ℕ). SparesOthers k b.world c.world) place.slot_is (others (tells told)) in
           let above = layers_drop g 0 (suc n) (suc n) start (omega arith) are in
-          let rest : AllByRecursion (IsClosedIn b.world) (drop (suc n) start) = subst (λ (k : ℕ). AllByRecursion (IsClosedIn b.world) (drop k start)) (sym next) (was.closed (tells told_start)) in
+          let rest : AllByRecursion (IsClosedIn b.world) (drop (suc n) start) = subst (λ (k : ℕ). AllByRecursion (IsClosedIn b.world) (drop k start)) (sym next) (was.closed told agree) in
           let split : x ∷ drop (suc n) start ≡ drop n start = ap (λ (s : LayerState). s ∷ drop (suc n) start) at_start ∙ sym (drop-cons start n x low) in
           subst (AllByRecursion (IsClosedIn c.world)) split (
-            closed (tells told_start) (agrees_here agree told_start),
+            closed (tells told) (agrees_here told agree),
             closed_above g n (suc n) (drop (suc n) start) b.world c.world (omega arith) above spares rest,
           )
+
+      next_reads : AreLayersFrom g 0 start → (i : ℕ) (d : LayerState) → i < n → i < length start → CanRead (get_or start i d) c
+      next_reads are i d less inner =
+          read_beside (get_or start i d) x.slot b c tells_back others
+          (λ e. absurd (omega (arith, e, place.slot_is, (layer_at g i 0 start i d (omega arith) are inner).slot_is, less))) (was.reads i d (omega (arith, less, next)) inner)
+        where
+          tells_back : Tells c → Tells b
+          tells_back told = tells (back told)
+
+      -- where nothing was changed, nothing is done
+      next_still : (x.marked ≡ false → x.hardened ≡ true → (y ≡ x) × (c ≡ b)) → AreUnchanged start → (set now n y ≡ start) × (c ≡ a)
+      next_still still calm =
+          let here = unchanged_now calm in
+          let h = still here.unmarked here.hardened in
+          let before = was.still calm in
+          (ap (set now n) (h.0 ∙ is) ∙ (set-get_or now n x ∙ before.0), h.1 ∙ before.1)
 
       next_unchanged : y.marked ≡ false → y.hardened ≡ true → AllByRecursion IsUnchanged (drop n (set now n y))
       next_unchanged unmarked hardened =
@@ -269,10 +310,10 @@ module _ (null : NullBytes) (g : Geometry) (start now : List LayerState) (a b : 
           (record { unmarked = unmarked; hardened = hardened }, subst (λ (k : ℕ). AllByRecursion IsUnchanged (drop k now)) (sym more) was.unchanged)
 
       -- one more was closed
-      pub one_closed : (more : ℕ) → more ≡ n → AreLayersFrom g 0 start → AgreeIn start a → KeepsMap null x y b c → StopsWithin null x b c → StopHolds null x b c
-          → (Tells b → Agrees x b.world → x.marked ≡ true → StaysClosed x.tables.layout x.slot c.world) → (x.marked ≡ false → x.hardened ≡ true → c.world ≡ b.world)
+      pub one_closed : (more : ℕ) → more ≡ n → AreLayersFrom g 0 start → KeepsMap null x y b c → StopsWithin null x b c → StopHolds null x b c
+          → (Tells b → Agrees x b.world → x.marked ≡ true → StaysClosed x.tables.layout x.slot c.world) → (x.marked ≡ false → x.hardened ≡ true → (y ≡ x) × (c ≡ b))
           → y.marked ≡ false → y.hardened ≡ true → y.broken ≡ false → c.faults ≡ b.faults → HasClosed null g start (set now n y) a c more
-      one_closed more e are agree map stopped holds closed still unmarked hardened whole counts = subst (HasClosed null g start (set now n y) a c) (sym e) (record {
+      one_closed more e are map stopped holds closed still unmarked hardened whole counts = subst (HasClosed null g start (set now n y) a c) (sym e) (record {
         slots = next_slots;
         whole = next_whole whole;
         files = next_files;
@@ -280,8 +321,10 @@ module _ (null : NullBytes) (g : Geometry) (start now : List LayerState) (a b : 
         keeps = next_keeps map;
         lies = next_lies stopped;
         settled = λ less. next_settled stopped holds;
-        spares = next_spares still;
-        closed = next_closed are agree closed;
+        spares = next_spares (λ unmarked fast. ap (λ (s : Seen). s.world) (still unmarked fast).1);
+        closed = next_closed are closed;
+        reads = next_reads are;
+        still = next_still still;
         unchanged = next_unchanged unmarked hardened;
         counts = counts ∙ was.counts;
       })

@@ -76,14 +76,14 @@ pub record ChangesLast (P : LayerState → LayerState → Type 0) (old new : Lis
 
 -- ---- layers that were changed
 
--- each layer agrees with its file, as far as that is told
-abbrev pub AgreeIn : List LayerState → Seen → Type 0
-AgreeIn layers s = Tells s → AgreeAll layers s.world
-
 -- a layer wasn't changed since it was mounted or closed, and has nothing that isn't on the disk for good
 pub record IsUnchanged (s : LayerState) : Type 0 where
   pub unmarked : s.marked ≡ false
   pub hardened : s.hardened ≡ true
+
+-- no layer was
+abbrev pub AreUnchanged : List LayerState → Type 0
+AreUnchanged layers = AllByRecursion IsUnchanged layers
 
 -- a slot has no layer that was changed
 abbrev pub HasNoChange : List LayerState → ℕ → Type 0
@@ -102,9 +102,13 @@ pub record SparesUnchanged (layers : List LayerState) (old new : World) : Type 0
 abbrev pub OnlyInChanged : List LayerState → Seen → Seen → Type 0
 OnlyInChanged layers old new = Tells old → SparesUnchanged layers old.world new.world
 
--- the file of each layer that was changed is that of a closed image, and a stop leaves it as it is
-abbrev pub ChangedAreClosed : List LayerState → Seen → Type 0
-ChangedAreClosed layers s = Tells s → AllByRecursion (λ layer. layer.marked ≡ true → StaysClosed layer.tables.layout layer.slot s.world) layers
+-- a layer's file, if it was changed, is that of a closed image, and a stop leaves it as it is
+abbrev pub IsClosedIn : World → LayerState → Type 0
+IsClosedIn w s = s.marked ≡ true → StaysClosed s.tables.layout s.slot w
+
+-- so are the files of layers that agreed with them before
+abbrev pub ClosesChanged : List LayerState → Seen → Seen → Type 0
+ClosesChanged layers old new = Tells old → AgreeAll layers old.world → AllByRecursion (IsClosedIn new.world) layers
 
 -- the layers are of the same files, one by one
 abbrev pub AreSameFiles : List LayerState → List LayerState → Type 0
