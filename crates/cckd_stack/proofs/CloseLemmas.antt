@@ -1,16 +1,15 @@
 -- Layers closed one after another, the last one first.
-use Rattle.std.proofs.Common.{◌≡◌, ◌≢◌, ◌⊎◌, ⊎_elim, ℕ, zero, suc, ◌+◌, ◌<◌, ◌≤◌, Bool, true, false, List, [], ◌∷◌, ◌++◌, length, drop, get_or, set, refl, sym, ◌∙◌, ap, subst, inl, inr, arith}
+use Rattle.std.proofs.Common.{◌≡◌, ⊎_elim, ℕ, zero, suc, ◌+◌, ◌<◌, ◌≤◌, true, false, List, [], ◌∷◌, ◌++◌, length, drop, get_or, set, refl, sym, ◌∙◌, ap, subst, arith}
 use Rattle.std.specs.List.{AllByRecursion}
 use Rattle.std.proofs.Math.Seq.{drop-cons, drop-length}
 use Rattle.std.proofs.lemmas.Bool.{false≢true, cases_lt, cases_Bool}
 use Rattle.std.proofs.lemmas.List.{drop-set, set-get_or, get_or-set_other}
 use Rattle.cckd_base.specs.declared.geometry.Geometry.{Geometry}
 use Rattle.cckd_base.specs.declared.geometry.Layout.{Layout}
-use Rattle.cckd_shelf.specs.declared.fault.Faults.{Faults}
 use Rattle.cckd_shelf.specs.Events.{Event, Written, Torn, Cut, HalfCut, Synced, Put, Bound, is_sure}
 use Rattle.cckd_shelf.specs.Seen.{Seen, Tells}
 use Rattle.cckd_shelf.specs.World.{World, file_of}
-use Rattle.cckd_shelf.specs.Outcomes.{IsOutcome, EachOutcome, OthersStill, AtEach}
+use Rattle.cckd_shelf.specs.Outcomes.{IsOutcome, EachOutcome, OthersStill}
 use Rattle.cckd_shelf.specs.Frame.{SparesOthers, OnlyIn}
 use Rattle.cckd_shelf.proofs.MomentLemmas.{at_once, at_end, joins, weaker}
 use Rattle.cckd_shelf.proofs.FrameLemmas.{other_keeps}
@@ -18,13 +17,11 @@ use Rattle.cckd_layer.specs.Closed.{IsClosed}
 use Rattle.cckd_layer.specs.Held.{NullBytes}
 use Rattle.cckd_layer.specs.Mounted.{LayerState, ReadsFrom, CanRead}
 use Rattle.cckd_layer.specs.Writes.{Agrees, KeepsMap, StopsWithin, StopHolds, IsSameFile, StaysClosed}
-use Rattle.cckd_stack.specs.Layers.{Stack}
 use Rattle.cckd_stack.specs.Stops.{Lies}
-use Rattle.cckd_stack.specs.Moments.{EachOpens, Hardening}
+use Rattle.cckd_stack.specs.Moments.{EachOpens}
 use Rattle.cckd_stack.specs.Stacked.{IsLayerIn, AreLayersFrom, AreWhole, CanReadAll}
-use Rattle.cckd_stack.specs.Writes.{AgreeAll, AreStack, KeepsStack, IsUnchanged, AreUnchanged, HasNoChange, SparesUnchanged, OnlyInChanged, IsClosedIn, AreSameFiles, HasHardening, StopsLie, StopsSettle, all_hardened}
+use Rattle.cckd_stack.specs.Writes.{AgreeAll, KeepsStack, IsUnchanged, AreUnchanged, HasNoChange, SparesUnchanged, OnlyInChanged, IsClosedIn, AreSameFiles, StopsLie, StopsSettle, all_hardened}
 use Rattle.cckd_stack.proofs.LayerListLemmas.{all_at, all_set, layer_at}
-use Rattle.cckd_stack.proofs.CalledLemmas.{opens_weaker}
 use Rattle.cckd_stack.proofs.WritesLemmas.{set_lies, set_settles, kept_hardening, settled_hardening}
 use Rattle.cckd_stack.proofs.LowerLemmas.{lower_lies, any_keeps}
 

@@ -1,5 +1,5 @@
 -- A layer anywhere in a stack, and what is made of the stack by what keeps that layer's map.
-use Rattle.std.proofs.Common.{◌≡◌, ◌⊎◌, ⊎_elim, ℕ, zero, suc, ◌+◌, ◌-◌, ◌<◌, ◌≤◌, Bool, cond, List, [], ◌∷◌, length, get_or, set, Option, Some, None, refl, sym, ◌∙◌, ap, subst, inl, inr, arith}
+use Rattle.std.proofs.Common.{◌≡◌, ◌⊎◌, ⊎_elim, ℕ, zero, suc, ◌+◌, ◌-◌, ◌<◌, ◌≤◌, Bool, cond, List, [], ◌∷◌, length, get_or, set, refl, sym, ◌∙◌, ap, subst, inl, inr, arith}
 use Rattle.std.proofs.Math.Path.{fun_ext}
 use Rattle.std.proofs.lemmas.Bool.{cases_lt}
 use Rattle.cckd_base.specs.declared.geometry.Geometry.{Geometry}
@@ -10,26 +10,26 @@ use Rattle.cckd_base.specs.Image.{IsHeaded}
 use Rattle.cckd_base.specs.Track.{null_track}
 use Rattle.cckd_base.proofs.HeaderLemmas.{headed_base, headed_shadow}
 use Rattle.cckd_shelf.specs.Events.{Event, file_now}
-use Rattle.cckd_shelf.specs.Seen.{Seen, Tells}
+use Rattle.cckd_shelf.specs.Seen.{Seen}
 use Rattle.cckd_shelf.specs.World.{World, IsSure, file_of}
-use Rattle.cckd_shelf.specs.Outcomes.{IsCrashImage, EachOutcome, OthersStill, AtEach}
+use Rattle.cckd_shelf.specs.Outcomes.{EachOutcome, OthersStill, AtEach}
 use Rattle.cckd_shelf.specs.Frame.{SparesOthers, OnlyIn}
 use Rattle.cckd_shelf.proofs.OutcomeLemmas.{now_is_outcome}
 use Rattle.cckd_shelf.proofs.MomentLemmas.{weaker, both}
 use Rattle.cckd_shelf.proofs.StopLemmas.{with_slot, slot_here, slot_other, image_with}
 use Rattle.cckd_layer.specs.Sits.{identifiers_for}
-use Rattle.cckd_layer.specs.Held.{NullBytes, LiesWithin, Keeps, held, held_in}
+use Rattle.cckd_layer.specs.Held.{NullBytes, LiesWithin, Keeps, held_in}
 use Rattle.cckd_layer.specs.Mounted.{LayerState}
 use Rattle.cckd_layer.specs.Writes.{Agrees, KeepsMap, StopsWithin, IsSameFile, map_of as layer_map}
-use Rattle.cckd_stack.specs.Layers.{Layer, Stack, base, shadow, layer_count, top, below}
+use Rattle.cckd_stack.specs.Layers.{Layer, Stack, base, shadow, layer_count, below}
 use Rattle.cckd_stack.specs.Stops.{Lies}
 use Rattle.cckd_stack.specs.Moments.{EachOpens, Hardening}
 use Rattle.cckd_stack.specs.Opened.{HoldsLayer, StandIn, OpensTo, held_tracks}
 use Rattle.cckd_stack.specs.Tops.{top_slot}
 use Rattle.cckd_stack.specs.Stacked.{IsLayerIn, AreLayersFrom, map_of, maps_of, map_at, stack_to, stack_by, stack_of}
-use Rattle.cckd_stack.specs.Writes.{AgreeAll, AreStack, KeepsStack, HasHardening, StopsLie, stack_now}
+use Rattle.cckd_stack.specs.Writes.{AgreeAll, KeepsStack, HasHardening}
 use Rattle.cckd_stack.proofs.LayerListLemmas.{all_at, layer_at, map_here, maps_length}
-use Rattle.cckd_stack.proofs.TopLemmas.{same_slot, stand_agree}
+use Rattle.cckd_stack.proofs.TopLemmas.{stand_agree}
 use Rattle.cckd_stack.proofs.BridgeLemmas.{count_to, held_low, held_high, identifier_in, whole_sound}
 use Rattle.cckd_stack.proofs.LastLemmas.{beside}
 use Rattle.cckd_stack.proofs.WritesLemmas.{map_low, map_high, same_map}

@@ -1,4 +1,4 @@
-use Rattle.std.proofs.Common.{◌≡◌, ◌+◌, ◌-◌, length, refl, ap, arith, get_or}
+use Rattle.std.proofs.Common.{◌+◌, ◌-◌, length, ap, arith, get_or}
 use Rattle.std.proofs.lemmas.Bool.{false≢true}
 use Rattle.cckd_shelf.specs.Seen.{Seen, seen}
 use Rattle.cckd_layer.specs.Mounted.{LayerState}
@@ -80,4 +80,4 @@ loop-done-preserved g c =
     c.close.new.self (seen g.T.Shows c.close.new.stage) (λ told. told) c.close.ensures.same c.close.ensures.others
     (length start - (c.loop-done.done + 1)) (omega (arith, c.loop-done-test.true)) c.requires.layers c.in-Ok.ensures.map c.in-Ok.ensures.stopped c.in-Ok.ensures.holds c.in-Ok.ensures.closed
     (λ unmarked hardened. let h = c.in-Ok.ensures.still unmarked hardened in (h.1, h.2))
-        c.in-Ok.ensures.unmarked c.in-Ok.ensures.hardened c.in-Ok.ensures.broken c.in-Ok.ensures.counts
+    c.in-Ok.ensures.unmarked c.in-Ok.ensures.hardened c.in-Ok.ensures.broken c.in-Ok.ensures.counts
