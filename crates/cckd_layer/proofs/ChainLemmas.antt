@@ -151,7 +151,7 @@ next_none ps from e = sym (ap first_place (no_roomy ps from e))
 
 -- ---- one link more
 
-four : (order : Order) (n : ℕ) → length (bytes_of order w32 n) ≡ 4
+pub four : (order : Order) (n : ℕ) → length (bytes_of order w32 n) ≡ 4
 four Little n = refl
 four Big n = refl
 

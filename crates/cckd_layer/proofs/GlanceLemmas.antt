@@ -1,5 +1,5 @@
 -- The geometry that headers say, as they are read to a buffer.
-use Rattle.std.proofs.Common.{◌≡◌, ℕ, List, length, Option, Some, None, Result, Ok, Err, IfErr, sym, ◌∙◌, ap, subst}
+use Rattle.std.proofs.Common.{◌≡◌, ℕ, List, length, Option, Result, Ok, Err, IfErr, sym, ◌∙◌, ap}
 use Rattle.cckd_shelf.specs.Seen.{Seen}
 use Rattle.cckd_shelf.specs.World.{file_of}
 use Rattle.cckd_base.specs.declared.geometry.Geometry.{Geometry}
@@ -7,7 +7,7 @@ use Rattle.cckd_base.specs.declared.geometry.Layout.{Layout}
 use Rattle.cckd_base.specs.declared.fault.HeaderFault.{HeaderFault}
 use Rattle.cckd_base.specs.declared.open_fault.OpenFault.{OpenFault}
 use Rattle.cckd_base.specs.declared.open_fault.OpenFault.TheVariants as open_fault
-use Rattle.cckd_base.specs.Header.{headers_of, header_fault, layout_of}
+use Rattle.cckd_base.specs.Header.{headers_of, header_fault}
 use Rattle.cckd_image.specs.declared.roles.Roles.{Roles}
 use Rattle.cckd_image.specs.Image.{identifiers_of}
 use Rattle.cckd_image.specs.declared.header.ImageHeader.{ImageHeader}

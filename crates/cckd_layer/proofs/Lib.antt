@@ -4,15 +4,15 @@ pub mod CallerLemmas
 pub mod ChainLemmas
 pub mod ClaimLemmas
 pub mod CloseLemmas
+pub mod ClosedImageLemmas
+pub mod ClosedLayerLemmas
 pub mod ClosedLemmas
 pub mod CommitLemmas
 pub mod CommittedLemmas
 pub mod CountLemmas
 pub mod GlanceLemmas
 pub mod CurrentLemmas
-pub mod EndedLemmas
 pub mod FillLemmas
-pub mod FinalLemmas
 pub mod FoundLemmas
 pub mod HeadLemmas
 pub mod LinkLemmas

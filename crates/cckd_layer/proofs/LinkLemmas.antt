@@ -15,7 +15,7 @@ use Rattle.cckd_space.specs.declared.piece.Piece.{Piece}
 use Rattle.cckd_space.specs.Pieces.{IsLaid, is_free, is_roomy}
 use Rattle.cckd_layer.specs.Chain.{link_bytes, first_place, chained, roomy_pieces}
 use Rattle.cckd_layer.specs.Closed.{IsChain}
-use Rattle.cckd_layer.proofs.ChainLemmas.{link_long}
+use Rattle.cckd_layer.proofs.ChainLemmas.{four, link_long}
 use Rattle.cckd_layer.proofs.FillLemmas.{write_fills, fills_part}
 
 -- spaces of at least 8 bytes in order from a place on, each behind the one before, up to an end
@@ -82,10 +82,6 @@ headed_links order at (q ∷ qs) end file bytes low long half h links =
 number_back : (order : Order) (n : ℕ) → n ≤ format_limit → number_of order w32 (bytes_of order w32 n) ≡ n
 number_back Little n short = from_le_bytes-to_le_bytes_4 n (omega (arith, short))
 number_back Big n short = from_be_bytes-to_be_bytes_4 n (omega (arith, short))
-
-four : (order : Order) (n : ℕ) → length (bytes_of order w32 n) ≡ 4
-four Little n = refl
-four Big n = refl
 
 -- the two numbers of a link
 next_read : (order : Order) (file : List ℕ) (at next size : ℕ) → next ≤ format_limit → bytes_at file at 8 ≡ link_bytes order next size → number_at order w32 file at ≡ next

@@ -83,7 +83,6 @@ impl<U: Unit> Layer<U> {
     /// Closes an image that was just hardened.
     fn close_anew<T: Stage>(&mut self, stage: &mut T) -> Result<(), Device>
         requires settled { IsSettled self.old }
-        requires hardened { self.old.hardened ≡ true }
         ensures closes { OnOk result (self.new ≡ closed_layer self.old) }
         ensures closed { Tells (seen T.Shows stage.old) → Agrees self.old (seen T.Shows stage.old).world
             → OnOk result (IsClosed self.old.tables.layout (file_of (seen T.Shows stage.new).world self.old.slot)) }

@@ -12,7 +12,7 @@ use std::marker::{Model, PhantomData};
 #[derive(Drop)]
 pub struct Layer<U> {
     pub(crate) slot: Slot,
-    /// As the file had them when it was mounted.
+    /// As they were last read from the file or written to it.
     pub(crate) header: ImageHeader,
     pub(crate) tables: Tables,
     pub(crate) space: Space,

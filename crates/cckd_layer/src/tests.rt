@@ -348,6 +348,30 @@ fn a_fault_of_closing_is_told(rt: HostRuntime) -> Result<(), Fail> {
     Ok(())
 }
 
+#[test]
+fn a_layer_that_was_not_changed_is_closed_without_a_call(rt: HostRuntime) -> Result<(), Fail> {
+    let alloc = rt.alloc();
+    let bytes = written(alloc, 3152, &[])?;
+    let (mut stage, slot) = stage_of(alloc, &bytes, &[])?;
+    let mut layer: Layer<Ckd> = match Layer::mount(
+        alloc,
+        &mut stage,
+        slot,
+        Roles::Base,
+        FORMAT_LIMIT,
+    ) {
+        Ok(layer) => layer,
+        Err(_) => return Err(Fail::new("not mounted")),
+    };
+    assert_eq!(rt; layer.close(&mut stage), Ok(()));
+    assert_eq!(rt; stage.ops().len(), 1);
+    let Some(file) = stage.file("v") else {
+        return Err(Fail::new("no file"));
+    };
+    assert_eq!(rt; file.starts_with(bytes.as_slice()), true);
+    Ok(())
+}
+
 /// Puts 16 bytes.
 fn put_sixteen(
     stage: &mut MemoryStage,

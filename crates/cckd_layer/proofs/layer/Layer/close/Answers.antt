@@ -2,8 +2,8 @@ use Rattle.cckd_shelf.specs.Seen.{seen}
 use Rattle.std.proofs.Common.{◌∙◌, ap}
 use Rattle.cckd_layer.specs.Mounted.{LayerState}
 use Rattle.cckd_layer.proofs.StepLemmas.{within_twice, maps_twice, only_then}
-use Rattle.cckd_layer.proofs.FinalLemmas.{hardened_holds}
-use Rattle.cckd_layer.proofs.EndedLemmas.{stays_closed}
+use Rattle.cckd_layer.proofs.ClosedLayerLemmas.{hardened_holds}
+use Rattle.cckd_layer.proofs.ClosedImageLemmas.{stays_closed}
 use Rattle.cckd_layer.proofs.layer.Layer.close.Goals as goal
 
 pub returns-in-Ok-clause-stopped : goal.returns-in-Ok-clause-stopped

@@ -8,8 +8,8 @@ use Rattle.cckd_layer.specs.Stands.{nothing_staged}
 use Rattle.cckd_layer.specs.Mounted.{LayerState}
 use Rattle.cckd_layer.specs.Writes.{Agrees, StopsWithin, KeepsMap, AgreesAgain, IsSettled, closed_layer}
 use Rattle.cckd_layer.specs.Closed.{IsClosed}
-use Rattle.cckd_layer.proofs.FinalLemmas.{closed_agrees, closing_within, last_second}
-use Rattle.cckd_layer.proofs.EndedLemmas.{image_closed}
+use Rattle.cckd_layer.proofs.ClosedLayerLemmas.{closed_agrees, closing_within, last_second}
+use Rattle.cckd_layer.proofs.ClosedImageLemmas.{image_closed}
 use Rattle.cckd_layer.proofs.layer.Layer.close_anew.Goals as goal
 
 pub returns-in-Ok-clause-map : goal.returns-in-Ok-clause-map

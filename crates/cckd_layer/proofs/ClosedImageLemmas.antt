@@ -33,7 +33,7 @@ use Rattle.cckd_layer.proofs.ClosedLemmas.{AreRoomy, are_roomy, chained_changes,
 use Rattle.cckd_layer.proofs.SurveyedLemmas.{found_whole}
 use Rattle.cckd_layer.proofs.TotalsLemmas.{roomy_made, free_place, totals_same}
 use Rattle.cckd_layer.proofs.LinkLemmas.{AreInOrder, HasLinks, roomy_in_order, chained_links, headed_links, chain_read}
-use Rattle.cckd_layer.proofs.FinalLemmas.{closed_fits, last_second, closed_final, ends_with, current_of}
+use Rattle.cckd_layer.proofs.ClosedLayerLemmas.{closed_fits, last_second, closed_keeps, ends_with, current_of}
 
 -- ---- pieces where nothing is under way
 
@@ -131,7 +131,7 @@ image_closed s old new settled sure closed alone a =
     let fits = closed_fits l (totals_of s.plan) s.header.cckd a.fits in
     let before = current_of s old.world settled.stages a in
     let ends = ends_with l s.plan was before in
-    let final = closed_final v s.slot old new (last_second s) fits a.stands closed ends in
+    let final = closed_keeps v s.slot old new (last_second s) fits a.stands closed ends in
     let stands = stands_closed v s.slot old.world new.world (last_second s) fits a.stands sure closed alone in
     let whole = (stands_sits (record v { marked = false }) s.slot new.world stands).whole in
     let now : Current l nothing_staged [] s.plan file = subst (λ (st : Stages). Current l st [] s.plan file) settled.stages stands.now in

@@ -51,17 +51,17 @@ pub closing_within : (null : NullBytes) (s : LayerState) (old new : Seen) → St
 closing_within null s old new stops d later told a within each =
     closing_keeps null d later (kept_view s) s.slot old new (last_second s) (closed_fits s.tables.layout (totals_of s.plan) s.header.cckd a.fits) told a.stands stops each
 
--- a file that was closed: the same image, with this second header
-pub record IsFinal (l : Layout) (c : CckdHeader) (was file : List ℕ) : Type 0 where
+-- the same image, no longer and no shorter, with this second header
+pub record KeepsImage (l : Layout) (c : CckdHeader) (was file : List ℕ) : Type 0 where
   pub stays : StaysImage l was file
   pub tables : (g : ℕ) → g < l.groups → IsPlace (word_at l was g) → bytes_at file (word_at l was g) 2048 ≡ bytes_at was (word_at l was g) 2048
   pub second : cckd_header_of (headers_of file) ≡ c
   pub no_shorter : length was ≤ length file
   pub no_longer : length file ≤ length was
 
-pub closed_final : (v : LayerView) (slot : ℕ) (old new : Seen) (c : CckdHeader) → FitsLayout v.layout c → Stands v slot old.world
-    → IsClosedFrom v.layout.order v.plan.pieces c (file_of old.world slot) (file_of new.world slot) → v.plan.size ≤ length (file_of old.world slot) → IsFinal v.layout c (file_of old.world slot) (file_of new.world slot)
-closed_final v slot old new c fits h closed ends =
+pub closed_keeps : (v : LayerView) (slot : ℕ) (old new : Seen) (c : CckdHeader) → FitsLayout v.layout c → Stands v slot old.world
+    → IsClosedFrom v.layout.order v.plan.pieces c (file_of old.world slot) (file_of new.world slot) → v.plan.size ≤ length (file_of old.world slot) → KeepsImage v.layout c (file_of old.world slot) (file_of new.world slot)
+closed_keeps v slot old new c fits h closed ends =
     let l = v.layout in
     let ps = v.plan.pieces in
     let end = v.plan.size in
@@ -73,7 +73,7 @@ closed_final v slot old new c fits h closed ends =
     let x = free_whole l ps end was mid h.now.spans.laid h.now.spans.short changes sits in
     let y = remarked l c closed.0 mid closed.1 fits x.whole in
     let fills = write_fills 512 closed.0 mid file (write_made 512 closed.0 mid) in
-    subst (IsFinal l c was) (sym closed.2) (record {
+    subst (KeepsImage l c was) (sym closed.2) (record {
       stays = record {
         image = y.stays.image;
         word = λ g low. y.stays.word g low ∙ x.stays.word g low;
@@ -109,7 +109,7 @@ closed_agrees null s old new empty sure closed alone a =
     let was = file_of old.world s.slot in
     let file = file_of new.world s.slot in
     let fits = closed_fits l (totals_of s.plan) s.header.cckd a.fits in
-    let x = closed_final v s.slot old new (last_second s) fits a.stands closed (ends_with l s.plan was (current_of s old.world empty a)) in
+    let x = closed_keeps v s.slot old new (last_second s) fits a.stands closed (ends_with l s.plan was (current_of s old.world empty a)) in
     record {
       agrees = record {
         stands = stands_closed v s.slot old.world new.world (last_second s) fits a.stands sure closed alone;
