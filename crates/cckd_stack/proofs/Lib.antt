@@ -12,5 +12,6 @@ pub mod CalledLemmas
 pub mod WritesLemmas
 pub mod LowerLemmas
 pub mod CloseLemmas
+pub mod TiedLemmas
 pub mod CountedLemmas
 pub mod CheckLemmas

@@ -1,5 +1,5 @@
 -- What a call that writes makes of a stack, and what a stop leaves of it.
-use Rattle.std.specs.Prelude.{ℕ, ◌≡◌, Bool, true, false, List, [], ◌∷◌, ◌++◌, Result, Ok, Err}
+use Rattle.std.specs.Prelude.{ℕ, suc, ◌≡◌, ◌≤◌, Bool, true, false, List, [], ◌∷◌, ◌++◌, Result, Ok, Err}
 use Rattle.std.specs.List.{AllByRecursion}
 use Rattle.cckd_base.specs.declared.geometry.Geometry.{Geometry}
 use Rattle.cckd_base.specs.declared.call.Call.{Call}
@@ -12,6 +12,8 @@ use Rattle.cckd_base.specs.declared.layer_fault.LayerFault.{LayerFault}
 use Rattle.cckd_base.specs.declared.layer_fault.LayerFault.TheVariants as fault
 use Rattle.cckd_base.specs.declared.layer_fault.StackFault.{StackFault}
 use Rattle.cckd_base.specs.declared.layer_fault.StackFault.TheVariants as stack_fault
+use Rattle.cckd_base.specs.Header.{is_present}
+use Rattle.cckd_base.specs.Image.{IsSnug}
 use Rattle.cckd_base.specs.Track.{null_track}
 use Rattle.cckd_shelf.specs.Seen.{Seen, Tells}
 use Rattle.cckd_shelf.specs.World.{World, file_of}
@@ -144,6 +146,21 @@ all_hardened was = record { stack = was.stack; hard = was.stack; later = [] }
 -- and once these bytes were written to a track
 abbrev pub with_written : Pair → Hardening → Hardening
 with_written p was = record { stack = with_pair_on_top was.stack p; hard = was.hard; later = p ∷ was.later }
+
+-- ---- once it is mounted
+
+-- the stack was mounted, and nothing was written since
+abbrev pub all_mounted : NullBytes → List LayerState → Seen → Hardening
+all_mounted null layers s = record { stack = stack_now null layers s; hard = stack_now null layers s; later = [] }
+
+-- the files of the layers are snug
+abbrev pub AreSnugFrom : (ℕ → List ℕ) → ℕ → List LayerState → Type 0
+AreSnugFrom files slot [] = Unit {0}
+AreSnugFrom files slot (s ∷ ss) = IsSnug s.tables.layout (files slot) × AreSnugFrom files (suc slot) ss
+
+-- no stop leaves a file in a slot from this one on
+abbrev pub AreAbsentAbove : ℕ → World → Type 0
+AreAbsentAbove count w = (slot : ℕ) → count ≤ slot → slot ≤ 8 → EachOutcome slot (λ file. is_present file ≡ false) w.events
 
 -- ---- replies
 

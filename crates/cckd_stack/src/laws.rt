@@ -1,5 +1,5 @@
 //! What the files, the layers and the stack have to do with each other. The functions do nothing: each contract is a law.
-ghost use Rattle.std.specs.Prelude.{ℕ, ◌≡◌, ◌<◌, ◌≤◌, ◌∷◌, ◌++◌, [], List, None, Some, Result, OnOk, IfErr, true, false};
+ghost use Rattle.std.specs.Prelude.{ℕ, ◌≡◌, ◌<◌, ◌≤◌, ◌∷◌, ◌++◌, [], List, length, None, Some, Result, OnOk, IfErr, true, false};
 ghost use Rattle.cckd_base.specs.declared.geometry.Geometry.{Geometry as Shape};
 ghost use Rattle.cckd_base.specs.declared.geometry.Layout.{Layout};
 ghost use Rattle.cckd_base.specs.declared.call.Call.{Call as Asked};
@@ -14,6 +14,7 @@ ghost use Rattle.cckd_layer.specs.Mounted.{LayerState};
 ghost use Rattle.cckd_layer.specs.Writes.{Agrees, KeepsMap, StopsWithin, StopHolds, StoresIn, IsSameFile, IsOutside};
 ghost use Rattle.cckd_shelf.specs.Events.{Event};
 ghost use Rattle.cckd_shelf.specs.Seen.{Seen, Tells};
+ghost use Rattle.cckd_shelf.specs.World.{World, IsSure, file_of, after_put};
 ghost use Rattle.cckd_shelf.specs.Outcomes.{AtEach};
 ghost use Rattle.cckd_shelf.specs.Frame.{OnlyIn};
 ghost use Rattle.cckd_stack.specs.Layers.{Layer, Stack as Layered};
@@ -23,9 +24,9 @@ ghost use Rattle.cckd_stack.specs.Stops.{Lies, hardens};
 ghost use Rattle.cckd_stack.specs.Moments.{EachOpens, Hardening, KeepsStops};
 ghost use Rattle.cckd_stack.specs.Opened.{Opens};
 ghost use Rattle.cckd_stack.specs.Tops.{HoldsLies, laters_of};
-ghost use Rattle.cckd_stack.specs.Stacked.{StackState, IsStack, AreLayersFrom, InLayer, stack_of};
-ghost use Rattle.cckd_stack.specs.Mounting.{IsMounted, AreFreshFrom};
-ghost use Rattle.cckd_stack.specs.Writes.{KeepsStack, StoresOnTop, HasHardening, StopsLie, StopsSettle, with_pair_on_top, all_hardened, with_written, reply_by, is_broken_by, OnlyHardens, asks};
+ghost use Rattle.cckd_stack.specs.Stacked.{StackState, IsStack, AreLayersFrom, CanReadAll, InLayer, stack_of};
+ghost use Rattle.cckd_stack.specs.Mounting.{IsMounted, AreFreshFrom, StandFrom, after_syncs};
+ghost use Rattle.cckd_stack.specs.Writes.{AgreeAll, AreSnugFrom, AreAbsentAbove, KeepsStack, StoresOnTop, HasHardening, StopsLie, StopsSettle, with_pair_on_top, all_mounted, all_hardened, with_written, reply_by, is_broken_by, OnlyHardens, asks};
 
 /// The files open to the stack that is mounted of them.
 pub fn mounted_opens()
@@ -91,4 +92,17 @@ pub fn writes_are_answered()
         → reply_breaks c (reply_by said result) ≡ is_broken_by result }
     ensures layers { (g : Shape) (s : Layered) (r : Request) (p : Pair) (said : Said) → pair_by g s r ≡ Some p → is_refused said ≡ false
         → stack_after_call g s r said ≡ with_pair_on_top s p }
+{}
+
+/// Layers that agree with their files can be read. Only what has happened counts, and what is put doesn't. Layers that were
+/// mounted agree, and their stack is hardened as it is.
+pub fn mounted_layers_agree()
+    ensures reads { (layers : List LayerState) (s : Seen) → (Tells s → AgreeAll layers s.world) → CanReadAll layers s }
+    ensures events { (layers : List LayerState) (v w : World) → v.events ≡ w.events → AgreeAll layers v → AgreeAll layers w }
+    ensures puts { (layers : List LayerState) (bytes : List ℕ) (w : World) → AgreeAll layers w → AgreeAll layers (after_put bytes w) }
+    ensures agree { (limit : ℕ) (s : StackState) (old new : Seen) → IsStack s → AreFreshFrom limit 0 s.layers → Tells new → IsSure old.world → IsMounted (file_of old.world) s
+        → AreSnugFrom (file_of old.world) 0 s.layers → new.world ≡ after_syncs (length s.layers) old.world → StandFrom (file_of old.world) new.world 0 s.layers → AgreeAll s.layers new.world }
+    ensures hardened { (limit : ℕ) (s : StackState) (old new : Seen) → IsStack s → AreFreshFrom limit 0 s.layers → Tells new → IsSure old.world → IsMounted (file_of old.world) s
+        → AreSnugFrom (file_of old.world) 0 s.layers → new.world ≡ after_syncs (length s.layers) old.world → StandFrom (file_of old.world) new.world 0 s.layers
+        → AreAbsentAbove (length s.layers) new.world → HasHardening null_track s.geometry s.layers (all_mounted null_track s.layers new) new }
 {}
