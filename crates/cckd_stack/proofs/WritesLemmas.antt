@@ -1,5 +1,5 @@
 -- What a call that writes makes of a stack, from what it makes of the last layer.
-use Rattle.std.proofs.Common.{◌≡◌, ⊎_elim, ℕ, suc, ◌<◌, ◌≤◌, ◌==◌, cond, Bool, true, false, List, [], ◌∷◌, ◌++◌, length, take, get_or, set, Option, Some, None, Result, Ok, Err, OnOk, IfErr, refl, sym, ◌∙◌, ap, subst, inl, inr, arith}
+use Rattle.std.proofs.Common.{◌≡◌, ⊎_elim, ℕ, suc, ◌<◌, ◌≤◌, ◌==◌, cond, Bool, true, false, List, [], ◌∷◌, ◌++◌, length, take, get_or, set, Option, Some, None, Result, Ok, Err, OnOk, OnErr, IfErr, refl, sym, ◌∙◌, ap, subst, inl, inr, arith}
 use Rattle.std.proofs.Math.Path.{fun_ext}
 use Rattle.std.proofs.lemmas.List.{length-append}
 use Rattle.std.proofs.lemmas.Bool.{false≢true, cases_lt, cases_Bool, lt-ltb, le-ltb, eqb-true, eqb-false, cond-true, cond-false}
@@ -266,6 +266,11 @@ module _ (layers : List LayerState) (n : ℕ) (x y : LayerState) (is : x ≡ get
       subst (λ (ls : List LayerState). P ls (set layers n y)) (sym were)
       (subst (λ (ls : List LayerState). P (take n layers ++ x ∷ []) ls) (sym (last_set layers n y end)) h)
 
+  -- a track of the device is one of the layer's
+  pub set_device : (g : Geometry) → AreLayersFrom g 0 layers → (t : ℕ) → t < track_count g → t < track_count x.tables.layout.geo
+  set_device g are t device =
+      subst (λ (k : Geometry). t < track_count k) (sym (own_layer g (take n layers) x (subst (AreLayersFrom g 0) were are)).shape) device
+
   module _ (null : NullBytes) (g : Geometry) (old new : Seen) (are : AreLayersFrom g 0 layers) (same : IsSameFile x y) (others : OnlyIn x.slot old new) where
     are_split : AreLayersFrom g 0 (take n layers ++ x ∷ [])
     are_split = subst (AreLayersFrom g 0) were are
@@ -285,6 +290,16 @@ module _ (layers : List LayerState) (n : ℕ) (x y : LayerState) (is : x ≡ get
         → StoresOnTop null (t, bytes) layers (set layers n y) old new
     set_stores t bytes device stores =
         both_lists (λ was next. StoresOnTop null (t, bytes) was next old new) (stores_on_top null g (take n layers) x y old new are_split same others t bytes device stores)
+
+    pub set_stores_ok : {A B : Type 0} (result : Result A B) (t : ℕ) (bytes : List ℕ) → t < track_count g
+        → OnOk result (Tells old → Agrees x old.world → StoresIn [] null x y t (Some bytes) old new) → OnOk result (StoresOnTop null (t, bytes) layers (set layers n y) old new)
+    set_stores_ok (Ok a) t bytes device stores = set_stores t bytes device stores
+    set_stores_ok (Err why) t bytes device stores = tt
+
+    -- a refusal that doesn't break keeps the stack
+    pub set_keeps_err : {A B : Type 0} (result : Result A B) (P : Type 0) → OnErr result (P → KeepsMap null x y old new) → OnErr result (P → KeepsStack null layers (set layers n y) old new)
+    set_keeps_err (Ok a) P kept = tt
+    set_keeps_err (Err why) P kept = λ p. set_keeps (kept p)
 
     has_split : (was : Hardening) → HasHardening null g layers was old → HasHardening null g (take n layers ++ x ∷ []) was old
     has_split was has = subst (λ (ls : List LayerState). HasHardening null g ls was old) were has
