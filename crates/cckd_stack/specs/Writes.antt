@@ -51,7 +51,7 @@ KeepsStack null layers next old new = Tells old → AgreeAll layers old.world �
 abbrev pub with_pair_on_top : Stack → Pair → Stack
 with_pair_on_top s p = with_top s (with_track (top s) p.0 p.1)
 
--- the same, and they are the stack with these bytes for a track in its last layer
+-- where the layers agreed with their files, they agree again, and are the stack with these bytes for a track in its last layer
 abbrev pub StoresOnTop : NullBytes → Pair → List LayerState → List LayerState → Seen → Seen → Type 0
 StoresOnTop null p layers next old new =
     Tells old → AgreeAll layers old.world → AreStack null (with_pair_on_top (stack_now null layers old) p) next new
@@ -83,7 +83,7 @@ pub record IsUnchanged (s : LayerState) : Type 0 where
   pub unmarked : s.marked ≡ false
   pub hardened : s.hardened ≡ true
 
--- no layer was
+-- none of the layers was changed
 abbrev pub AreUnchanged : List LayerState → Type 0
 AreUnchanged layers = AllByRecursion IsUnchanged layers
 
@@ -108,7 +108,7 @@ OnlyInChanged layers old new = Tells old → SparesUnchanged layers old.world ne
 abbrev pub IsClosedIn : World → LayerState → Type 0
 IsClosedIn w s = s.marked ≡ true → StaysClosed s.tables.layout s.slot w
 
--- so are the files of layers that agreed with them before
+-- so are the files of all layers, where they agreed with them before
 abbrev pub ClosesChanged : List LayerState → Seen → Seen → Type 0
 ClosesChanged layers old new = Tells old → AgreeAll layers old.world → AllByRecursion (IsClosedIn new.world) layers
 
@@ -139,11 +139,11 @@ abbrev pub StopsSettle : NullBytes → Geometry → List LayerState → Seen →
 StopsSettle null g layers old new =
     (was : Hardening) → HasHardening null g layers was old → EachOpens g (Lies was.stack []) new.world.events
 
--- the same once all that was written is hardened
+-- what was hardened and written since, once all of it is hardened
 abbrev pub all_hardened : Hardening → Hardening
 all_hardened was = record { stack = was.stack; hard = was.stack; later = [] }
 
--- and once these bytes were written to a track
+-- and once these bytes were written to a track as well
 abbrev pub with_written : Pair → Hardening → Hardening
 with_written p was = record { stack = with_pair_on_top was.stack p; hard = was.hard; later = p ∷ was.later }
 
