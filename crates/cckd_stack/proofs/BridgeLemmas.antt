@@ -38,7 +38,7 @@ later_among (p ∷ ps) t o (inr there) = let h = later_among ps t o there in (h.
 -- ---- one file
 
 -- a whole image of a layout is a sound one, by what it begins with
-whole_sound : (l : Layout) (identifier file : List ℕ) → identifier ∷ [] ≡ identifiers_for l → IsWhole l file → IsSound (identifier ∷ []) l file
+pub whole_sound : (l : Layout) (identifier file : List ℕ) → identifier ∷ [] ≡ identifiers_for l → IsWhole l file → IsSound (identifier ∷ []) l file
 whole_sound l identifier file named whole = record {
   headed = subst (λ (ids : List (List ℕ)). IsHeaded ids l file) (sym named) whole.headed;
   clean = survey_of_image l file whole.image;
@@ -48,14 +48,14 @@ track_within : (ps : List Pair) (t : ℕ) (old new : Option (List ℕ)) → (new
 track_within ps t old new (inl same) = inl same
 track_within ps t old new (inr later) = inr (later_among ps t new later)
 
-within_track : (ps : List Pair) (t : ℕ) (old new : Option (List ℕ)) → TrackLies t ps old new → (new ≡ old) ⊎ IsLater (laters_of ps) t new
+pub within_track : (ps : List Pair) (t : ℕ) (old new : Option (List ℕ)) → TrackLies t ps old new → (new ≡ old) ⊎ IsLater (laters_of ps) t new
 within_track ps t old new (inl same) = inl same
 within_track ps t old new (inr later) = inr (subst (IsLater (laters_of ps) t) (sym later.1) (among_later ps t later.0 later.2))
 
-held_low : (l : Layout) (file : List ℕ) (t : ℕ) → t < track_count l.geo → held_tracks l file t ≡ held_in null_track l file t
+pub held_low : (l : Layout) (file : List ℕ) (t : ℕ) → t < track_count l.geo → held_tracks l file t ≡ held_in null_track l file t
 held_low l file t low = rw (lt-ltb t (track_count l.geo) low)
 
-held_high : (l : Layout) (file : List ℕ) (t : ℕ) → track_count l.geo ≤ t → held_tracks l file t ≡ None
+pub held_high : (l : Layout) (file : List ℕ) (t : ℕ) → track_count l.geo ≤ t → held_tracks l file t ≡ None
 held_high l file t high = rw (le-ltb t (track_count l.geo) high)
 
 -- what a layer keeps of a file is what the stack keeps, where the hardened layer has nothing past the last track

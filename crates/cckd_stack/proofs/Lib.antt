@@ -7,5 +7,11 @@ pub mod RowLemmas
 pub mod MountedLemmas
 pub mod FirstLemmas
 pub mod BridgeLemmas
+pub mod LastLemmas
+pub mod CalledLemmas
+pub mod WritesLemmas
+pub mod LowerLemmas
+pub mod CloseLemmas
+pub mod TiedLemmas
 pub mod CountedLemmas
 pub mod CheckLemmas

@@ -31,7 +31,7 @@ syncs_sure zero w sure = sure
 syncs_sure (suc n) w sure = syncs_sure n w sure
 
 -- a layer stands behind any sync
-stands_still : (v : LayerView) (slot s : ℕ) (w : World) → Stands v slot w → Stands v slot (after_sync s w)
+pub stands_still : (v : LayerView) (slot s : ℕ) (w : World) → Stands v slot w → Stands v slot (after_sync s w)
 stands_still v slot s w h = record {
   sure = h.sure;
   now = h.now;

@@ -17,13 +17,13 @@ use Rattle.cckd_stack.proofs.HistoryLemmas.{top_with, below_with}
 
 -- ---- what only the layers below the last decide
 
-same_slot : (s d : Stack) → below s ≡ below d → top_slot s ≡ top_slot d
+pub same_slot : (s d : Stack) → below s ≡ below d → top_slot s ≡ top_slot d
 same_slot (base a) (base b) e = refl
 same_slot (base a) (shadow b lower) e = absurd (cc e)
 same_slot (shadow a lower) (base b) e = absurd (cc e)
 same_slot (shadow a lower) (shadow b other) e = ap layer_count (cc e)
 
-same_identifier : (s d : Stack) → below s ≡ below d → top_identifier s ≡ top_identifier d
+pub same_identifier : (s d : Stack) → below s ≡ below d → top_identifier s ≡ top_identifier d
 same_identifier (base a) (base b) e = refl
 same_identifier (base a) (shadow b lower) e = absurd (cc e)
 same_identifier (shadow a lower) (base b) e = absurd (cc e)
@@ -35,7 +35,7 @@ with_top_is (base a) (shadow b lower) e = absurd (cc e)
 with_top_is (shadow a lower) (base b) e = absurd (cc e)
 with_top_is (shadow a lower) (shadow b other) e = ap (shadow b) (sym (cc e))
 
-with_own : (d : Stack) → with_top d (top d) ≡ d
+pub with_own : (d : Stack) → with_top d (top d) ≡ d
 with_own d = with_top_is d d refl
 
 count_with : (s : Stack) (m : Layer) → layer_count (with_top s m) ≡ layer_count s

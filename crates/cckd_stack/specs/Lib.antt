@@ -9,3 +9,4 @@ pub mod Moments
 pub mod Tops
 pub mod Stacked
 pub mod Mounting
+pub mod Writes

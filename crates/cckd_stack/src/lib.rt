@@ -2,6 +2,8 @@
 #![tactic(auto)]
 
 mod checking;
+mod closing;
+mod hardening;
 mod laws;
 mod mounting;
 mod presence;
@@ -10,5 +12,8 @@ mod showing;
 mod stack;
 
 pub use cckd_base::{Call, Geometry, Refusal, Reply, Turn};
-pub use laws::{bridges, mounted_opens};
+pub use laws::{
+    bridges, hardening_is_answered, hardenings_go_on, last_layers_count, mounted_layers_agree,
+    mounted_opens, stops_are_kept, writes_are_answered,
+};
 pub use stack::Stack;

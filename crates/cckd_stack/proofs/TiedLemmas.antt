@@ -1,0 +1,152 @@
+-- Layers that agree with their files: once they are mounted, and whatever is put.
+use Rattle.std.proofs.Common.{◌≡◌, ⊎_elim, ℕ, zero, suc, ◌+◌, ◌-◌, ◌<◌, ◌≤◌, List, [], ◌∷◌, length, refl, sym, ◌∙◌, ap, subst, arith}
+use Rattle.std.specs.Prelude.{IsTrue}
+use Rattle.std.proofs.Math.Path.{fun_ext}
+use Rattle.std.proofs.lemmas.Bool.{cases_lt}
+use Rattle.cckd_base.specs.Track.{null_track}
+use Rattle.cckd_shelf.specs.Events.{Event, is_sure, file_now}
+use Rattle.cckd_shelf.specs.Seen.{Seen, Tells}
+use Rattle.cckd_shelf.specs.World.{World, IsSure, file_of, after_sync, after_put}
+use Rattle.cckd_shelf.specs.Outcomes.{EachOutcome}
+use Rattle.cckd_shelf.proofs.OutcomeLemmas.{sync_step, sync_leaves_now}
+use Rattle.cckd_tables.specs.Tables.{AreOf}
+use Rattle.cckd_layer.specs.Sits.{IsMarked, Sits}
+use Rattle.cckd_layer.specs.Current.{Current}
+use Rattle.cckd_layer.specs.Mounted.{LayerState, IsFresh, IsOf, kept_view}
+use Rattle.cckd_layer.specs.Stands.{Stands}
+use Rattle.cckd_layer.specs.Writes.{Agrees}
+use Rattle.cckd_layer.proofs.CallerLemmas.{mounted_agrees, agrees_reads}
+use Rattle.cckd_stack.specs.Layers.{layer_count}
+use Rattle.cckd_stack.specs.Opened.{Opens}
+use Rattle.cckd_stack.specs.Stacked.{StackState, IsStack, CanReadAll, maps_of, stack_of}
+use Rattle.cckd_stack.specs.Mounting.{roles_in, IsMounted, AreFreshFrom, AreOfFrom, StandFrom, after_syncs}
+use Rattle.cckd_stack.specs.Writes.{AgreeAll, HasHardening, AreSnugFrom, AreAbsentAbove, all_mounted}
+use Rattle.cckd_stack.proofs.HistoryLemmas.{lies_same}
+use Rattle.cckd_stack.proofs.LayerListLemmas.{all_between, maps_length}
+use Rattle.cckd_stack.proofs.TopLemmas.{stand_agree}
+use Rattle.cckd_stack.proofs.BridgeLemmas.{mounted_opens, count_to}
+use Rattle.cckd_stack.proofs.MountedLemmas.{syncs_files, syncs_sure, stands_still}
+
+-- ---- reading, and what is put
+
+pub agree_reads : (layers : List LayerState) (s : Seen) → (Tells s → AgreeAll layers s.world) → CanReadAll layers s
+agree_reads [] s agree = tt
+agree_reads (x ∷ xs) s agree = (agrees_reads x s (λ told. (agree told).0), agree_reads xs s (λ told. (agree told).1))
+
+-- only what has happened counts
+agrees_by : (s : LayerState) (v w : World) → v.events ≡ w.events → Agrees s v → Agrees s w
+agrees_by s v w e a = record {
+  stands = record {
+    sure = subst (λ (es : List Event). IsTrue (is_sure es)) e a.stands.sure;
+    now = subst (λ (es : List Event). Current s.tables.layout s.tables.stages [] s.plan (file_now es s.slot)) e a.stands.now;
+    each = subst (EachOutcome s.slot (Sits s.tables.layout s.plan.pieces)) e a.stands.each;
+    marked = λ m. subst (EachOutcome s.slot IsMarked) e (a.stands.marked m);
+  };
+  are = subst (λ (es : List Event). AreOf s.tables (file_now es s.slot)) e a.are;
+  fits = a.fits;
+  empty = a.empty;
+  alone = λ h. subst (λ (es : List Event). EachOutcome s.slot (λ f. f ≡ file_now es s.slot) es) e (a.alone h);
+}
+
+pub agree_by : (layers : List LayerState) (v w : World) → v.events ≡ w.events → AgreeAll layers v → AgreeAll layers w
+agree_by layers v w e agree = all_between (λ (s : LayerState). Agrees s v) (λ (s : LayerState). Agrees s w) layers (λ s a. agrees_by s v w e a) agree
+
+agrees_put : (s : LayerState) (bytes : List ℕ) (w : World) → Agrees s w → Agrees s (after_put bytes w)
+agrees_put s bytes w a = record {
+  stands = record { sure = a.stands.sure; now = a.stands.now; each = a.stands.each; marked = a.stands.marked };
+  are = a.are;
+  fits = a.fits;
+  empty = a.empty;
+  alone = a.alone;
+}
+
+pub agree_put : (layers : List LayerState) (bytes : List ℕ) (w : World) → AgreeAll layers w → AgreeAll layers (after_put bytes w)
+agree_put layers bytes w agree = all_between (λ (s : LayerState). Agrees s w) (λ (s : LayerState). Agrees s (after_put bytes w)) layers (λ s a. agrees_put s bytes w a) agree
+
+-- ---- once they are mounted
+
+-- each slot that was synced holds its file for good
+synced_alone : (n k : ℕ) (w : World) → k < n → IsSure w → EachOutcome k (λ f. f ≡ file_of w k) (after_syncs n w).events
+synced_alone zero k w low sure = absurd (omega (arith, low))
+synced_alone (suc n) k w low sure = ⊎_elim
+    (λ (less : k < n). sync_step (λ f. f ≡ file_of w k) k n (after_syncs n w).events (synced_alone n k w less sure))
+    (λ (most : n ≤ k).
+    let e : n ≡ k = omega (arith, low, most) in
+    subst (λ (j : ℕ). EachOutcome j (λ f. f ≡ file_of w j) (after_syncs (suc n) w).events) e
+    (subst (λ (f : List ℕ). EachOutcome n (λ g. g ≡ f) (after_syncs (suc n) w).events) (syncs_files n w n) (sync_leaves_now n (after_syncs n w).events (syncs_sure n w sure))))
+    (cases_lt k n)
+
+one_agrees : (limit slot n : ℕ) (s : LayerState) (old : World) → slot < n → IsSure old → IsFresh slot limit s → IsOf (roles_in slot) (file_of old slot) s
+    → Stands (kept_view s) slot (after_syncs n old) → Agrees s (after_syncs n old)
+one_agrees limit slot n s old low sure fresh of stands =
+    let new = after_syncs n old in
+    let file : file_of old slot ≡ file_of new slot = sym (syncs_files n old slot) in
+    let here = subst (λ (f : List ℕ). IsOf (roles_in slot) f s) file of in
+    let again = mounted_agrees (roles_in slot) slot limit s new (after_sync slot new) (syncs_sure n old sure) fresh here refl (stands_still (kept_view s) slot slot new stands) in
+    let alone = subst (λ (f : List ℕ). EachOutcome slot (λ g. g ≡ f) new.events) file (synced_alone n slot old low sure) in
+    record {
+      stands = subst (λ (k : ℕ). Stands (kept_view s) k new) (sym fresh.slot_is) stands;
+      are = again.are;
+      fits = again.fits;
+      empty = again.empty;
+      alone = λ h. subst (λ (k : ℕ). EachOutcome k (λ g. g ≡ file_of new k) new.events) (sym fresh.slot_is) alone;
+    }
+
+agree_from : (limit slot n : ℕ) (layers : List LayerState) (old : World) → n ≡ slot + length layers → IsSure old → AreFreshFrom limit slot layers → AreOfFrom (file_of old) slot layers
+    → AreSnugFrom (file_of old) slot layers → StandFrom (file_of old) (after_syncs n old) slot layers → AgreeAll layers (after_syncs n old)
+agree_from limit slot n [] old e sure fresh of snug stand = tt
+agree_from limit slot n (s ∷ ss) old e sure fresh of snug stand = (
+  one_agrees limit slot n s old (omega (arith, e)) sure fresh.0 of.0 (stand.0 snug.0),
+  agree_from limit (suc slot) n ss old (omega (arith, e)) sure fresh.1 of.1 snug.1 stand.1,
+)
+
+module _ (limit : ℕ) (s : StackState) (old new : Seen) (is : IsStack s) (fresh : AreFreshFrom limit 0 s.layers) (told : Tells new) (sure : IsSure old.world)
+    (mounted : IsMounted (file_of old.world) s) (snug : AreSnugFrom (file_of old.world) 0 s.layers) (synced : new.world ≡ after_syncs (length s.layers) old.world)
+    (stand : StandFrom (file_of old.world) new.world 0 s.layers)
+  where
+    pub mounted_agree : AgreeAll s.layers new.world
+    mounted_agree =
+        let n = length s.layers in
+        subst (AgreeAll s.layers) (sym synced)
+        (agree_from limit 0 n s.layers old.world (omega arith) sure fresh mounted.are snug (subst (λ (w : World). StandFrom (file_of old.world) w 0 s.layers) synced stand))
+
+    same_now : (k : ℕ) → file_of new.world k ≡ file_of old.world k
+    same_now k = ap (λ (w : World). file_of w k) synced ∙ syncs_files (length s.layers) old.world k
+
+    stack_was : stack_of null_track s.layers (file_of old.world) ≡ stack_of null_track s.layers (file_of new.world)
+    stack_was = ap (stack_of null_track s.layers) (fun_ext (λ k. sym (same_now k)))
+
+    count : layer_count (stack_of null_track s.layers (file_of new.world)) ≡ length s.layers
+    count =
+        let maps = maps_of null_track s.layers (file_of new.world) in
+        let long : length maps ≡ length s.layers = maps_length null_track s.layers (file_of new.world) in
+        omega (arith, count_to maps (length maps - 1), long, is.some)
+
+    opens_now : Opens s.geometry (file_of old.world) (stack_of null_track s.layers (file_of new.world))
+    opens_now = subst (Opens s.geometry (file_of old.world)) stack_was (mounted_opens limit (file_of old.world) s is fresh mounted)
+
+    -- the stack is hardened as it was mounted, where no stop leaves a file in a slot above
+    pub mounted_hardening : AreAbsentAbove (length s.layers) new.world → HasHardening null_track s.geometry s.layers (all_mounted null_track s.layers new) new
+    mounted_hardening absent =
+        let stack = stack_of null_track s.layers (file_of new.world) in
+        record {
+          null_is = refl;
+          tells = told;
+          agree = mounted_agree;
+          stack_is = refl;
+          hardened = record {
+            now = lies_same stack [];
+            stops = λ files image.
+                let held : (k : ℕ) → k < length s.layers → files k ≡ file_of old.world k =
+                λ k low. subst (λ (w : World). EachOutcome k (λ f. f ≡ file_of old.world k) w.events) (sym synced) (synced_alone (length s.layers) k old.world low sure) (files k) (image k) in
+                record {
+                  stack = stack;
+                  opens = record {
+                    stand = stand_agree s.geometry (file_of old.world) files stack (λ k low. sym (held k (omega (arith, low, count)))) opens_now.stand;
+                    few = opens_now.few;
+                    above = λ k low high. absent k (omega (arith, low, count)) high (files k) (image k);
+                  };
+                  holds = lies_same stack [];
+                };
+          };
+        }
