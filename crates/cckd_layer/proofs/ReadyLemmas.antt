@@ -65,8 +65,7 @@ ready_still null s m f h n a b d e t st need bytes cached first second sameM sam
     let at : FindsRoom (with_tables s (with_cached s.tables cached)) t (need_of st) = λ wanted full wants lacks. r wanted full (record { new = wants.new; old = wants.old }) lacks in
     let here : FindsRoom h t need = subst (λ (x : LayerState). FindsRoom x t need) (sym look) (subst (λ (o : Option ℕ). FindsRoom (with_tables s (with_cached s.tables cached)) t o) (sym needs) at) in
     let enough : 4 ≤ h.plan.spare = subst (λ (x : LayerState). 4 ≤ x.plan.spare) (sym look) spare in
-    let u = finds (second (first told)) (subst (λ (x : LayerState). Agrees x d.world) (sym sameH) (again told agrees)) here enough in
-    (
+    let u = finds (second (first told)) (subst (λ (x : LayerState). Agrees x d.world) (sym sameH) (again told agrees)) here enough in (
       λ x. u.stays (second (first x)) ∙ (stays (first x) ∙ ap (λ (w : Seen). w.world) sameB),
       ap (λ (x : LayerState). x.marked) u.rest ∙ ap (λ (x : LayerState). x.marked) look,
     )

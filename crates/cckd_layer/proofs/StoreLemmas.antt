@@ -53,8 +53,7 @@ put_to slot pos bytes w new made =
     let now : file_of new slot ≡ overlaid was pos (padded bytes) = now_wrote slot pos (padded bytes) w new made in
     let n = length bytes in
     let all = padded_length bytes in
-    let within : take n (take (length (padded bytes)) (drop pos (overlaid was pos (padded bytes)))) ≡ take n (padded bytes) = ap (take n) (overlaid_within_range was pos (padded bytes)) in
-    (
+    let within : take n (take (length (padded bytes)) (drop pos (overlaid was pos (padded bytes)))) ≡ take n (padded bytes) = ap (take n) (overlaid_within_range was pos (padded bytes)) in (
       ap (λ (f : List ℕ). bytes_at f pos n) now ∙ (sym (take-take n (length (padded bytes)) (drop pos (overlaid was pos (padded bytes))) (omega (arith, all))) ∙ (within ∙ padded_front bytes)),
       ap (λ (f : List ℕ). length f) now ∙ omega (arith, length_overlaid was pos (padded bytes), all),
     )

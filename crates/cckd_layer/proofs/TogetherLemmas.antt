@@ -117,9 +117,12 @@ stored_kept null more s m n a b c tells same low h k told agrees =
 pub holds_written : (null : NullBytes) (more : Later) (s m : LayerState) (a b c : Seen) → (Tells a → Tells b) → IsSameFile s m → StoresTrack null s m more.track more.bytes a b → StopHolds null m b c → HoldsWritten null more s a c
 holds_written null more s m a b c tells same h k told agrees =
     let p = h told agrees in
-    let map = map_of null m b in
-    (map, p.stores, subst (λ (n : ℕ). EachOutcome n (Holds null s.tables.layout map) c.world.events) same.slot
-    (subst (λ (l : Layout). EachOutcome m.slot (Holds null l map) c.world.events) same.layout (k (tells told) p.agrees)))
+    let map = map_of null m b in (
+      map,
+      p.stores,
+      subst (λ (n : ℕ). EachOutcome n (Holds null s.tables.layout map) c.world.events) same.slot
+          (subst (λ (l : Layout). EachOutcome m.slot (Holds null l map) c.world.events) same.layout (k (tells told) p.agrees)),
+    )
 
 -- the file is closed behind a write, where it is closed for the layer then
 pub closes_written : (null : NullBytes) (more : Later) (s m : LayerState) (a b c : Seen) → (Tells a → Tells b) → IsSameFile s m → StoresTrack null s m more.track more.bytes a b

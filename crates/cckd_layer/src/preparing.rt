@@ -94,7 +94,11 @@ impl<U: Unit> Layer<U> {
     }
 
     /// The entry of a track, the staged one or that of the file.
-    pub(crate) fn find_entry<T: Stage>(&mut self, stage: &mut T, t: Track) -> Result<L2Entry, LayerFault>
+    pub(crate) fn find_entry<T: Stage>(
+        &mut self,
+        stage: &mut T,
+        t: Track,
+    ) -> Result<L2Entry, LayerFault>
         requires track { t.0 < track_count self.old.tables.layout.geo }
         requires can_read { CanRead self.old (seen T.Shows stage.old) }
         ensures entry { Tells (seen T.Shows stage.old) → Agrees self.old (seen T.Shows stage.old).world

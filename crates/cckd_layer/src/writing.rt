@@ -25,7 +25,7 @@ ghost use Rattle.cckd_layer.specs.Marks.{WritesOrSyncs};
 use crate::hardening::fault_of;
 use crate::layer::Layer;
 use crate::preparing::Room;
-use cckd_base::{GROUP_TRACKS, L2Entry, Layout, LayerFault, Track, Unit};
+use cckd_base::{GROUP_TRACKS, L2Entry, LayerFault, Layout, Track, Unit};
 use cckd_shelf::{Failed, Slot, Stage};
 use cckd_tables::Device;
 
@@ -370,7 +370,9 @@ impl<U: Unit> Layer<U> {
             return Err(fault_of(fault));
         }
         let entry = stored.entry(room.places.track);
-        let len = room.len.max(entry.pos.saturating_add(u32::from(entry.size)));
+        let len = room
+            .len
+            .max(entry.pos.saturating_add(u32::from(entry.size)));
         self.stage_places(t, old, room.places.table, entry, len);
         Ok(())
     }
