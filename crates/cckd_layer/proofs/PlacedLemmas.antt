@@ -1,7 +1,7 @@
 -- What was placed is staged: the layer has the new bytes of the track.
-use Rattle.std.proofs.Common.{◌≡◌, ◌⊎◌, ◌+◌, ◌%◌, ◌/◌, ◌<◌, ◌≤◌, ℕ, List, [], ◌∷◌, ◌++◌, length, slice_index, Option, Some, None, IsSome, IsNone, refl, sym, ◌∙◌, ap, subst, inl, inr, arith, append-nil}
+use Rattle.std.proofs.Common.{◌≡◌, ◌⊎◌, ◌+◌, ◌%◌, ◌/◌, ◌<◌, ◌≤◌, ℕ, List, [], ◌∷◌, ◌++◌, length, Option, Some, None, IsSome, IsNone, refl, sym, ◌∙◌, subst, inl, inr, arith, append-nil}
 use Rattle.cckd_shelf.specs.World.{World, file_of}
-use Rattle.cckd_shelf.specs.Seen.{Seen, Tells}
+use Rattle.cckd_shelf.specs.Seen.{Seen}
 use Rattle.cckd_base.specs.declared.geometry.Layout.{Layout}
 use Rattle.cckd_base.specs.declared.entry.L2Entry.{L2Entry}
 use Rattle.cckd_base.specs.declared.space.Extent.{Extent}
@@ -9,16 +9,16 @@ use Rattle.cckd_base.specs.Geometry.{track_count}
 use Rattle.cckd_base.specs.Entry.{word_at, bytes_by_entry}
 use Rattle.cckd_base.specs.Image.{IsPlace}
 use Rattle.cckd_base.specs.Misfit.{entry_misfit}
-use Rattle.cckd_tables.specs.Staging.{Stages, IsMoved, IsStaged, place_for}
+use Rattle.cckd_tables.specs.Staging.{IsMoved, place_for}
 use Rattle.cckd_tables.specs.Tables.{TableView, AreOf}
 use Rattle.cckd_tables.specs.declared.staged.StagedWord.{StagedWord}
 use Rattle.cckd_tables.specs.Stages.{free_count, with_word}
 use Rattle.cckd_tables.specs.Looking.{IsTables, HasAlignedTable}
 use Rattle.cckd_tables.proofs.StageLemmas.{count_word_new, count_word_again}
-use Rattle.cckd_layer.specs.Held.{NullBytes, Tracks, AreSame}
-use Rattle.cckd_layer.specs.Current.{claim, CanBeEntry}
+use Rattle.cckd_layer.specs.Held.{NullBytes, AreSame}
+use Rattle.cckd_layer.specs.Current.{claim}
 use Rattle.cckd_layer.specs.Mounted.{LayerState}
-use Rattle.cckd_layer.specs.Writes.{AgreesWith, AgreesAgainWith, TakesClaim, CanStage, StoresIn, IsSameFile, claim_of, entry_now, map_of}
+use Rattle.cckd_layer.specs.Writes.{AgreesWith, TakesClaim, CanStage, StoresIn, IsSameFile, map_of}
 use Rattle.cckd_layer.specs.Storing.{CanPlace}
 use Rattle.cckd_layer.proofs.ClaimLemmas.{place_or_none}
 use Rattle.cckd_layer.proofs.SwapLemmas.{agrees_swap}

@@ -1,24 +1,21 @@
 -- What a write needs before it changes anything.
-use Rattle.std.proofs.Common.{◌≡◌, ◌⊎◌, ◌↔◌, ◌+◌, ◌%◌, ◌/◌, ◌<◌, ◌≤◌, ℕ, List, [], ◌++◌, length, slice_index, Bool, true, false, IsTrue, Option, Some, None, IsSome, Result, Ok, Err, IfErr, refl, sym, ◌∙◌, ap, subst, inl, inr, arith}
+use Rattle.std.proofs.Common.{◌≡◌, ◌%◌, ◌/◌, ◌<◌, ℕ, List, [], length, slice_index, Option, Some, None, IsSome, Result, Ok, Err, IfErr, refl, sym, ap, subst, inl, inr, arith}
 use Rattle.std.specs.Option.{unwrap_or}
 use Rattle.cckd_shelf.specs.World.{World, file_of}
 use Rattle.cckd_shelf.specs.Seen.{Seen, Tells, Stays}
 use Rattle.cckd_base.specs.declared.space.Extent.{Extent}
-use Rattle.cckd_base.specs.declared.geometry.Layout.{Layout}
-use Rattle.cckd_base.specs.Geometry.{track_count}
 use Rattle.cckd_base.specs.Image.{IsPlace}
-use Rattle.cckd_tables.specs.Staging.{Stages, IsMoved, place_for}
+use Rattle.cckd_tables.specs.Staging.{place_for}
 use Rattle.cckd_tables.specs.Tables.{TableView, CachedTable, AreOf}
 use Rattle.cckd_tables.specs.Looking.{HasAlignedTable, word_of, with_cached}
 use Rattle.cckd_layer.specs.Held.{NullBytes}
-use Rattle.cckd_layer.specs.Stands.{Stands}
 use Rattle.cckd_layer.specs.Mounted.{LayerState, with_tables}
 use Rattle.cckd_base.specs.declared.space.Full.{Full}
 use Rattle.cckd_base.specs.declared.layer_fault.LayerFault.{LayerFault}
 use Rattle.cckd_base.specs.declared.layer_fault.LayerFault.TheVariants as fault
 use Rattle.cckd_layer.specs.declared.preparing.Room.{Room}
-use Rattle.cckd_layer.specs.Preparing.{HasNoneToFree, WantsTable, IsDenial, IsDeniedFor, IsNoRoomIn, FindsRoom}
-use Rattle.cckd_layer.specs.Writes.{Agrees, KeepsMap, IsSameFile, IsOutside, with_plan, AgreesWith, AgreesAgainWith, KeepsMapWith, entry_now, map_of, claimed_view}
+use Rattle.cckd_layer.specs.Preparing.{HasNoneToFree, IsDenial, IsDeniedFor, IsNoRoomIn, FindsRoom}
+use Rattle.cckd_layer.specs.Writes.{Agrees, KeepsMap, IsSameFile, IsOutside, with_plan, AgreesWith, AgreesAgainWith, KeepsMapWith}
 
 -- a word at a place at a multiple of 8 is that of a group that has, or gets, an aligned table
 pub word_has : (v : TableView) (g : ℕ) → IsPlace (word_of v g) → word_of v g % 8 ≡ 0 → HasAlignedTable v g

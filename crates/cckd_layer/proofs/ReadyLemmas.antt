@@ -1,5 +1,5 @@
 -- A layer that is ready for a write, and why it isn't.
-use Rattle.std.proofs.Common.{◌≡◌, ◌<◌, ◌≤◌, ℕ, List, [], Option, refl, sym, ◌∙◌, ap, subst}
+use Rattle.std.proofs.Common.{◌≡◌, ◌<◌, ◌≤◌, ℕ, List, [], Option, sym, ◌∙◌, ap, subst}
 use Rattle.cckd_shelf.specs.Seen.{Seen, Tells, Stays}
 use Rattle.cckd_base.specs.declared.geometry.Layout.{Layout}
 use Rattle.cckd_base.specs.declared.entry.L2Entry.{L2Entry}
@@ -9,7 +9,6 @@ use Rattle.cckd_base.specs.declared.layer_fault.LayerFault.TheVariants as fault
 use Rattle.cckd_tables.specs.Tables.{CachedTable}
 use Rattle.cckd_tables.specs.Looking.{with_cached}
 use Rattle.cckd_layer.specs.declared.writing.Stored.{Stored}
-use Rattle.cckd_layer.specs.declared.writing.Prepared.{Prepared}
 use Rattle.cckd_layer.specs.declared.preparing.Room.{Room}
 use Rattle.cckd_layer.specs.Held.{NullBytes}
 use Rattle.cckd_layer.specs.Mounted.{LayerState, with_tables}

@@ -1,13 +1,12 @@
 -- A track whose bytes were put to their place can be staged, and the layer then has them.
-use Rattle.std.proofs.Common.{◌≡◌, ◌+◌, ◌/◌, ◌<◌, ◌≤◌, ◌==◌, nat_lt, cond, min, max, ℕ, List, [], ◌∷◌, ◌++◌, length, true, false, Option, Some, None, IfSome, refl, sym, ◌∙◌, ap, subst, inl, inr, arith}
+use Rattle.std.proofs.Common.{◌≡◌, ◌+◌, ◌/◌, ◌<◌, ◌≤◌, min, max, ℕ, List, [], ◌∷◌, ◌++◌, length, true, Option, Some, None, IfSome, refl, sym, ◌∙◌, ap, subst, inl, arith}
 use Rattle.std.specs.Option.{is_some}
 use Rattle.std.proofs.lemmas.Bool.{cond-true, lt-ltb}
 use Rattle.cckd_shelf.specs.World.{World, file_of}
-use Rattle.cckd_shelf.specs.Seen.{Seen, Tells}
+use Rattle.cckd_shelf.specs.Seen.{Seen}
 use Rattle.cckd_base.specs.declared.geometry.Layout.{Layout}
 use Rattle.cckd_base.specs.declared.entry.L2Entry.{L2Entry}
 use Rattle.cckd_base.specs.declared.space.Extent.{Extent}
-use Rattle.cckd_base.specs.declared.misfit.Misfit.{Misfit}
 use Rattle.cckd_base.specs.declared.misfit.Misfit.TheVariants.{BadEntry}
 use Rattle.cckd_base.specs.Geometry.{track_count, area_of, is_null_format, IsNullFormat}
 use Rattle.cckd_base.specs.Entry.{null_entry, bytes_by_entry}
@@ -16,14 +15,14 @@ use Rattle.cckd_base.specs.Image.{IsPlace}
 use Rattle.cckd_base.specs.Misfit.{entry_misfit}
 use Rattle.cckd_base.proofs.PlaceLemmas.{stored_can_be, placed_bytes}
 use Rattle.cckd_space.specs.Pieces.{aligned_up}
-use Rattle.cckd_tables.specs.Staging.{Stages, IsStaged, place_for}
+use Rattle.cckd_tables.specs.Staging.{IsStaged, place_for}
 use Rattle.cckd_tables.specs.Tables.{TableView}
 use Rattle.cckd_layer.specs.declared.writing.Stored.{Stored}
 use Rattle.cckd_layer.specs.declared.writing.Stored.TheVariants as stored
 use Rattle.cckd_layer.specs.Held.{NullBytes}
 use Rattle.cckd_layer.specs.Current.{claim}
 use Rattle.cckd_layer.specs.Mounted.{LayerState}
-use Rattle.cckd_layer.specs.Writes.{AgreesWith, AgreesAgainWith, TakesClaim, IsSameFile, claimed_view, claim_of, entry_now}
+use Rattle.cckd_layer.specs.Writes.{AgreesWith, AgreesAgainWith, IsSameFile, claimed_view, claim_of, entry_now}
 use Rattle.cckd_layer.specs.Storing.{need_of, entry_of_stored, IsStoredOf, IsPutTo, IsClaimed, CanPlace}
 use Rattle.cckd_layer.proofs.ReservedLemmas.{free_of, inside_of}
 use Rattle.cckd_layer.proofs.StandLemmas.{stands_sits}

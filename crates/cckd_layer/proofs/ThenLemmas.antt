@@ -17,7 +17,7 @@ use Rattle.cckd_layer.specs.Held.{NullBytes, Tracks, Later, IsLater, AreSame, Li
 use Rattle.cckd_base.specs.declared.layer_fault.LayerFault.{LayerFault}
 use Rattle.cckd_layer.specs.Mounted.{LayerState}
 use Rattle.cckd_layer.specs.Acts.{MayGiveBack}
-use Rattle.cckd_layer.specs.Writes.{AgreesWith, AgreesAgainWith, KeepsMap, KeepsMapWith, StopsWithin, StopsWithinWith, IsSameLayer, IsSameFile, IsAct, IsPut, map_of, failed_by, marked_layer}
+use Rattle.cckd_layer.specs.Writes.{AgreesWith, KeepsMap, KeepsMapWith, StopsWithin, StopsWithinWith, IsSameLayer, IsSameFile, IsAct, IsPut, map_of, failed_by, marked_layer}
 
 pub same_file_twice : (a b c : LayerState) → IsSameFile a b → IsSameFile b c → IsSameFile a c
 same_file_twice a b c h k = record { slot = k.slot ∙ h.slot; layout = k.layout ∙ h.layout; limit = k.limit ∙ h.limit }

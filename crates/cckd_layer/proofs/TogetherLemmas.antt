@@ -1,8 +1,7 @@
 -- A write, and what its callers do then.
 use Rattle.std.proofs.Common.{◌≡◌, ◌⊎◌, ◌<◌, ◌==◌, ℕ, Bool, true, false, List, [], ◌∷◌, Option, Some, Result, Ok, Err, OnOk, refl, sym, ◌∙◌, ap, subst, inl, inr}
 use Rattle.std.proofs.lemmas.Bool.{eq-eqb, eqb-true, both_ways}
-use Rattle.cckd_shelf.specs.Events.{Event}
-use Rattle.cckd_shelf.specs.Outcomes.{EachOutcome, AtEach}
+use Rattle.cckd_shelf.specs.Outcomes.{EachOutcome}
 use Rattle.cckd_shelf.specs.Seen.{Seen, Tells}
 use Rattle.cckd_shelf.specs.Frame.{OnlyIn}
 use Rattle.cckd_shelf.proofs.MomentLemmas.{joins, at_end, at_once, weaker}
@@ -10,9 +9,9 @@ use Rattle.cckd_shelf.proofs.FrameLemmas.{only_twice, only_stays}
 use Rattle.cckd_base.specs.declared.geometry.Layout.{Layout}
 use Rattle.cckd_base.specs.declared.layer_fault.LayerFault.{LayerFault}
 use Rattle.cckd_base.specs.Geometry.{track_count}
-use Rattle.cckd_layer.specs.Held.{NullBytes, Tracks, Later, IsLater, AreSame, Stores, LiesWithin, Keeps, Holds}
+use Rattle.cckd_layer.specs.Held.{NullBytes, Tracks, Later, IsLater, Stores, LiesWithin, Keeps, Holds}
 use Rattle.cckd_layer.specs.Mounted.{LayerState}
-use Rattle.cckd_layer.specs.Writes.{Agrees, AgreesIn, StoresIn, KeepsMap, StopsWithin, StopHolds, StaysClosed, IsSameFile, map_of}
+use Rattle.cckd_layer.specs.Writes.{Agrees, AgreesIn, KeepsMap, StopsWithin, StopHolds, StaysClosed, IsSameFile, map_of}
 use Rattle.cckd_layer.specs.Storing.{StoresTrack}
 use Rattle.cckd_layer.specs.Callers.{StopsWritten, HoldsWritten, ClosesFile}
 use Rattle.cckd_layer.proofs.ThenLemmas.{same_file_twice, within_as}

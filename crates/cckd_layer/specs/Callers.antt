@@ -1,5 +1,5 @@
 -- What the calls of a layer make one after another.
-use Rattle.std.specs.Prelude.{ℕ, ◌≡◌, List, ◌∷◌, Some}
+use Rattle.std.specs.Prelude.{ℕ, List, ◌∷◌, Some}
 use Rattle.cckd_shelf.specs.Seen.{Seen, Tells}
 use Rattle.cckd_shelf.specs.Outcomes.{EachOutcome, AtEach}
 use Rattle.cckd_base.specs.Geometry.{track_count}

@@ -1,5 +1,5 @@
 -- What a write needs before it changes anything: room among what is staged, and places.
-use Rattle.std.specs.Prelude.{ℕ, ◌≡◌, ◌⊎◌, ◌<◌, ◌≤◌, ◌/◌, ◌%◌, Bool, true, false, length, Option, Some, None, IsSome, IfSome, Result, Ok, Err}
+use Rattle.std.specs.Prelude.{ℕ, ◌≡◌, ◌/◌, ◌%◌, Bool, true, false, length, Option, Some, None, IfSome, Result, Ok}
 use Rattle.std.specs.Option.{is_some}
 use Rattle.cckd_shelf.specs.World.{World, file_of}
 use Rattle.cckd_shelf.specs.Seen.{Seen, Tells, Stays}
@@ -11,7 +11,6 @@ use Rattle.cckd_space.specs.Plan.{Plan}
 use Rattle.cckd_tables.specs.Staging.{IsStaged, place_for}
 use Rattle.cckd_tables.specs.Looking.{HasAlignedTable}
 use Rattle.cckd_layer.specs.Mounted.{LayerState}
-use Rattle.cckd_layer.specs.declared.claiming.Places.{Places}
 use Rattle.cckd_layer.specs.declared.preparing.Room.{Room}
 use Rattle.cckd_layer.specs.Writes.{Agrees, HaveNoPlaces, with_plan}
 

@@ -4,7 +4,6 @@ use Rattle.std.specs.Option.{is_some, unwrap_or}
 use Rattle.cckd_shelf.specs.Seen.{Seen, Tells}
 use Rattle.cckd_shelf.specs.World.{file_of, after_write, after_torn}
 use Rattle.cckd_base.specs.declared.geometry.Geometry.{Geometry}
-use Rattle.cckd_base.specs.declared.geometry.Layout.{Layout}
 use Rattle.cckd_base.specs.declared.entry.L2Entry.{L2Entry}
 use Rattle.cckd_base.specs.Geometry.{track_count, IsNullFormat}
 use Rattle.cckd_base.specs.Numbers.{bytes_at}

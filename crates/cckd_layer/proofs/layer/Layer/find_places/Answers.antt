@@ -1,11 +1,10 @@
-use Rattle.std.proofs.Common.{[], ◌++◌, Option, None, Result, Ok, Err, IfOk, IfErr, OnErr, refl, sym, subst}
+use Rattle.std.proofs.Common.{[], Option, Ok, sym, subst}
 use Rattle.cckd_shelf.specs.Seen.{seen}
-use Rattle.cckd_base.specs.declared.layer_fault.LayerFault.{LayerFault}
 use Rattle.cckd_layer.specs.declared.preparing.Room.{Room}
-use Rattle.cckd_layer.specs.Writes.{IsAct, KeepsMap, KeepsMapWith, claims_of}
+use Rattle.cckd_layer.specs.Writes.{claims_of}
 use Rattle.cckd_layer.specs.Preparing.{IsDenial, IsUnplaced}
 use Rattle.cckd_layer.proofs.ThenLemmas.{same_file, same_file_twice, act_still, act_hardened, act_then, maps_then, map_ok, map_err, err_for}
-use Rattle.cckd_layer.proofs.PrepareLemmas.{plan_same, kept_unread, hardened_full}
+use Rattle.cckd_layer.proofs.PrepareLemmas.{plan_same, hardened_full}
 use Rattle.cckd_layer.proofs.layer.Layer.find_places.Goals as goal
 
 -- the first try did nothing to the outside, and where it gave nothing the map is as before

@@ -1,4 +1,4 @@
-use Rattle.std.proofs.Common.{◌≤◌, true, IfErr, sym, subst, arith}
+use Rattle.std.proofs.Common.{IfErr, sym, subst}
 use Rattle.cckd_shelf.specs.Seen.{seen}
 use Rattle.cckd_layer.specs.Mounted.{LayerState}
 use Rattle.cckd_layer.specs.Preparing.{HasNoneToFree, IsNoRoomIn}

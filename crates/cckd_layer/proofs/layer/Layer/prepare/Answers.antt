@@ -1,13 +1,13 @@
-use Rattle.std.proofs.Common.{◌≡◌, ℕ, List, [], Option, Result, Err, refl, sym, ◌∙◌, ap, subst}
+use Rattle.std.proofs.Common.{[], Result, Err, sym, ◌∙◌, ap, subst}
 use Rattle.cckd_shelf.specs.Seen.{seen, Tells}
 use Rattle.cckd_base.specs.declared.geometry.Layout.{Layout}
 use Rattle.cckd_base.specs.declared.layer_fault.LayerFault.{LayerFault}
 use Rattle.cckd_layer.specs.Storing.{IsStoredOf, stored_as}
 use Rattle.cckd_layer.specs.Mounted.{LayerState, CanRead}
-use Rattle.cckd_layer.specs.Writes.{Agrees, AgreesIn, IsAct, KeepsMap, KeepsMapWith, claims_of}
+use Rattle.cckd_layer.specs.Writes.{Agrees, IsAct, KeepsMapWith, claims_of}
 use Rattle.cckd_layer.specs.Preparing.{IsNoRoomIn, SuitsFile}
 use Rattle.cckd_layer.proofs.CallerLemmas.{agrees_reads}
-use Rattle.cckd_layer.proofs.ThenLemmas.{act_still, act_then, maps_then, same_file_twice}
+use Rattle.cckd_layer.proofs.ThenLemmas.{act_still, act_then, maps_then}
 use Rattle.cckd_layer.proofs.PrepareLemmas.{kept_unread, map_same, looked_same}
 use Rattle.cckd_layer.proofs.ReadyLemmas.{outside_refusal, no_room_refusal, prepared, ready_still}
 use Rattle.cckd_layer.proofs.layer.Layer.prepare.Goals as goal

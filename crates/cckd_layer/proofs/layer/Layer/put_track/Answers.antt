@@ -1,14 +1,11 @@
-use Rattle.std.proofs.Common.{◌≡◌, ◌+◌, ◌⊎◌, ℕ, List, length, max, Option, Some, OnOk, sym, ◌∙◌, ap, subst}
+use Rattle.std.proofs.Common.{ℕ, length, Option, sym, subst}
 use Rattle.cckd_shelf.specs.Seen.{seen}
-use Rattle.cckd_shelf.specs.World.{file_of, after_write}
-use Rattle.cckd_base.specs.declared.space.Extent.{Extent}
-use Rattle.cckd_base.specs.Numbers.{bytes_at}
+use Rattle.cckd_shelf.specs.World.{file_of}
 use Rattle.cckd_space.specs.Pieces.{aligned_up}
-use Rattle.cckd_layer.specs.Current.{claim, IsAmong}
-use Rattle.cckd_layer.specs.Writes.{IsAct, KeepsMapWith}
-use Rattle.cckd_layer.specs.Storing.{stored_as, padded, IsPutTo, IsClaimed}
+use Rattle.cckd_layer.specs.Writes.{IsAct}
+use Rattle.cckd_layer.specs.Storing.{stored_as, IsPutTo, IsClaimed}
 use Rattle.cckd_layer.proofs.ThenLemmas.{same_marked, same_put, act_then, maps_then, ok_then}
-use Rattle.cckd_layer.proofs.StoreLemmas.{put_to, put_after}
+use Rattle.cckd_layer.proofs.StoreLemmas.{put_after}
 use Rattle.cckd_layer.proofs.layer.Layer.put_track.Goals as goal
 
 pub returns-in-Some-clause-map : goal.returns-in-Some-clause-map

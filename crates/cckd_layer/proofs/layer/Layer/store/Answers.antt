@@ -1,4 +1,4 @@
-use Rattle.std.proofs.Common.{◌≡◌, ◌<◌, ◌≤◌, ℕ, List, [], length, Option, Some, refl, sym, ◌∙◌, ap, subst, arith}
+use Rattle.std.proofs.Common.{◌≡◌, ◌<◌, ℕ, List, [], length, Option, Some, refl, sym, ◌∙◌, ap, subst, arith}
 use Rattle.cckd_shelf.specs.Seen.{seen}
 use Rattle.cckd_base.specs.declared.geometry.Layout.{Layout}
 use Rattle.cckd_base.specs.declared.entry.L2Entry.{L2Entry}
@@ -6,9 +6,8 @@ use Rattle.cckd_shelf.specs.World.{file_of}
 use Rattle.cckd_base.specs.Entry.{bytes_by_entry}
 use Rattle.cckd_base.specs.Geometry.{track_count}
 use Rattle.cckd_space.specs.Pieces.{aligned_up}
-use Rattle.cckd_tables.specs.Tables.{TableView}
 use Rattle.cckd_layer.specs.Mounted.{LayerState}
-use Rattle.cckd_layer.specs.Writes.{IsAct, KeepsMapWith, StoresIn, claim_of, claims_of}
+use Rattle.cckd_layer.specs.Writes.{KeepsMapWith, StoresIn, claim_of, claims_of}
 use Rattle.cckd_layer.specs.Storing.{stored_as, padded, need_of, IsStoredOf, CanPlace}
 use Rattle.cckd_layer.proofs.ThenLemmas.{act_still, act_then, maps_then}
 use Rattle.cckd_layer.proofs.PlacedLemmas.{stores_then}

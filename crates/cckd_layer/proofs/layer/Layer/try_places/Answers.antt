@@ -3,7 +3,7 @@ use Rattle.cckd_shelf.specs.World.{file_of}
 use Rattle.cckd_layer.specs.Mounted.{LayerState}
 use Rattle.cckd_shelf.specs.Seen.{seen}
 use Rattle.cckd_layer.specs.Writes.{claims_of}
-use Rattle.cckd_layer.proofs.PrepareLemmas.{lacks_new, file_short, seen_as}
+use Rattle.cckd_layer.proofs.PrepareLemmas.{file_short, seen_as}
 use Rattle.cckd_layer.proofs.layer.Layer.try_places.Goals as goal
 
 pub returns-in-Ok-claim_places-clause-map : goal.returns-in-Ok-claim_places-clause-map
