@@ -20,6 +20,8 @@ use Rattle.cckd_shelf.proofs.OutcomeLemmas.{now_is_outcome}
 use Rattle.cckd_shelf.proofs.MomentLemmas.{at_end, weaker}
 use Rattle.cckd_layer.specs.Sits.{identifiers_for}
 use Rattle.cckd_layer.specs.Held.{NullBytes, AreSame, Stores, LiesWithin, Keeps, held}
+use Rattle.cckd_base.specs.declared.fault.TrackFault.{TrackFault}
+use Rattle.cckd_layer.specs.Storing.{IsWriteRefusal, IsHarmless}
 use Rattle.cckd_layer.specs.Mounted.{LayerState}
 use Rattle.cckd_layer.specs.Writes.{Agrees, KeepsMap, StopsWithin, StopHolds, StoresIn, IsSameLayer, IsSameFile, IsOutside, map_of as layer_map, is_broken_by as is_layer_broken_by}
 use Rattle.cckd_tables.specs.Staging.{new_entry}
@@ -29,7 +31,7 @@ use Rattle.cckd_stack.specs.Stops.{TrackLies, Lies}
 use Rattle.cckd_stack.specs.Moments.{EachOpens, Hardening}
 use Rattle.cckd_stack.specs.Tops.{top_slot, top_identifier, HoldsLies, laters_of}
 use Rattle.cckd_stack.specs.Stacked.{AreLayersFrom, AreWhole, map_of}
-use Rattle.cckd_stack.specs.Writes.{AreStack, EndsWith, ChangesLast, KeepsStack, StoresOnTop, HasHardening, StopsLie, StopsSettle, stack_now, with_pair_on_top, all_hardened, with_written}
+use Rattle.cckd_stack.specs.Writes.{AreStack, EndsWith, ChangesLast, KeepsStack, StoresOnTop, HasHardening, StopsLie, StopsSettle, IsWriteRefused, stack_now, with_pair_on_top, all_hardened, with_written}
 use Rattle.cckd_stack.proofs.HistoryLemmas.{lies_more, lies_same, lies_put}
 use Rattle.cckd_stack.proofs.CalledLemmas.{opens_weaker}
 use Rattle.cckd_stack.proofs.TopLemmas.{same_slot, with_own, enters, leaves_each, settles}
@@ -271,6 +273,20 @@ module _ (layers : List LayerState) (n : ℕ) (x y : LayerState) (is : x ≡ get
   set_device g are t device =
       subst (λ (k : Geometry). t < track_count k) (sym (own_layer g (take n layers) x (subst (AreLayersFrom g 0) were are)).shape) device
 
+  -- its geometry is the device's
+  pub set_geometry : (g : Geometry) → AreLayersFrom g 0 layers → x.tables.layout.geo ≡ g
+  set_geometry g are = (own_layer g (take n layers) x (subst (AreLayersFrom g 0) were are)).shape
+
+  -- what is written back as it was leaves the layers
+  pub set_back : y ≡ x → set layers n y ≡ layers
+  set_back same = last_set layers n y end ∙ (ap (λ (z : LayerState). take n layers ++ z ∷ []) same ∙ sym were)
+
+  -- why a write is refused
+  pub set_refusal : {A : Type 0} (null : NullBytes) (found : Option TrackFault) (old new : Seen) (t : ℕ) (bytes : List ℕ) (result : Result A LayerFault) → IfErr result (IsWriteRefusal null found x y old new t bytes)
+      → IfErr result (IsWriteRefused null found layers (set layers n y) old new t bytes)
+  set_refusal null found old new t bytes (Ok a) h = tt
+  set_refusal null found old new t bytes (Err why) h = changes_last (λ s k. IsWriteRefusal null found s k old new t bytes why) layers n x y is end h
+
   module _ (null : NullBytes) (g : Geometry) (old new : Seen) (are : AreLayersFrom g 0 layers) (same : IsSameFile x y) (others : OnlyIn x.slot old new) where
     are_split : AreLayersFrom g 0 (take n layers ++ x ∷ [])
     are_split = subst (AreLayersFrom g 0) were are
@@ -300,6 +316,15 @@ module _ (layers : List LayerState) (n : ℕ) (x y : LayerState) (is : x ≡ get
     pub set_keeps_err : {A B : Type 0} (result : Result A B) (P : Type 0) → OnErr result (P → KeepsMap null x y old new) → OnErr result (P → KeepsStack null layers (set layers n y) old new)
     set_keeps_err (Ok a) P kept = tt
     set_keeps_err (Err why) P kept = λ p. set_keeps (kept p)
+
+    pub set_keeps_harmless : {A : Type 0} (result : Result A LayerFault) → is_layer_broken_by result ≡ false → IfErr result (λ why. IsHarmless why → KeepsMap null x y old new)
+        → IfErr result (λ why. KeepsStack null layers (set layers n y) old new)
+    set_keeps_harmless (Ok a) whole kept = tt
+    set_keeps_harmless (Err (fault.Track why)) whole kept = set_keeps (kept tt)
+    set_keeps_harmless (Err (fault.Full full)) whole kept = set_keeps (kept tt)
+    set_keeps_harmless (Err fault.ReadFault) whole kept = set_keeps (kept tt)
+    set_keeps_harmless (Err fault.WriteFault) whole kept = absurd (false≢true (sym whole))
+    set_keeps_harmless (Err fault.SyncFault) whole kept = absurd (false≢true (sym whole))
 
     has_split : (was : Hardening) → HasHardening null g layers was old → HasHardening null g (take n layers ++ x ∷ []) was old
     has_split was has = subst (λ (ls : List LayerState). HasHardening null g ls was old) were has

@@ -1,5 +1,5 @@
 -- What a call that writes makes of a stack, and what a stop leaves of it.
-use Rattle.std.specs.Prelude.{ℕ, suc, ◌≡◌, ◌≤◌, Bool, true, false, List, [], ◌∷◌, ◌++◌, Result, Ok, Err}
+use Rattle.std.specs.Prelude.{ℕ, suc, ◌≡◌, ◌≤◌, Bool, true, false, List, [], ◌∷◌, ◌++◌, Option, Result, Ok, Err}
 use Rattle.std.specs.List.{AllByRecursion}
 use Rattle.cckd_base.specs.declared.geometry.Geometry.{Geometry}
 use Rattle.cckd_base.specs.declared.call.Call.{Call}
@@ -22,6 +22,8 @@ use Rattle.cckd_shelf.specs.Outcomes.{IsOutcome, EachOutcome, AtEach}
 use Rattle.cckd_layer.specs.Held.{NullBytes}
 use Rattle.cckd_layer.specs.Mounted.{LayerState}
 use Rattle.cckd_layer.specs.Writes.{Agrees, IsSameFile, StaysClosed}
+use Rattle.cckd_layer.specs.Storing.{IsWriteRefusal}
+use Rattle.cckd_base.specs.declared.fault.TrackFault.{TrackFault}
 use Rattle.cckd_stack.specs.Layers.{Stack, top, with_top, with_track}
 use Rattle.cckd_stack.specs.Answers.{Request, Pair}
 use Rattle.cckd_stack.specs.Stops.{Lies}
@@ -75,6 +77,11 @@ pub record ChangesLast (P : LayerState → LayerState → Type 0) (old new : Lis
   pub old_is : old ≡ lower ++ was ∷ []
   pub new_is : new ≡ lower ++ next ∷ []
   pub changes : P was next
+
+-- why a write to the last of the layers is refused, as that layer says
+abbrev pub IsWriteRefused : NullBytes → Option TrackFault → List LayerState → List LayerState → Seen → Seen → ℕ → List ℕ → LayerFault → Type 0
+IsWriteRefused null found layers next old new t bytes why =
+    ChangesLast (λ s n. IsWriteRefusal null found s n old new t bytes why) layers next
 
 -- ---- layers that were changed
 

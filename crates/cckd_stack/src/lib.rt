@@ -10,6 +10,7 @@ mod presence;
 mod reading;
 mod showing;
 mod stack;
+mod writing;
 
 pub use cckd_base::{Call, Geometry, Refusal, Reply, Turn};
 pub use laws::{

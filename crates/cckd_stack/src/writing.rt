@@ -1,0 +1,90 @@
+//! Writing: a track of the last layer gets other bytes.
+ghost use Rattle.std.specs.Prelude.{◌≡◌, ◌-◌, ◌<◌, ◌≤◌, length, false, Some, None, Err, OnOk, IfErr};
+ghost use Rattle.cckd_shelf.specs.Seen.{seen, Tells};
+ghost use Rattle.cckd_shelf.specs.Frame.{OnlyIn};
+ghost use Rattle.cckd_base.specs.declared.fault.TrackFault.{TrackFault as Fault_of};
+ghost use Rattle.cckd_base.specs.Geometry.{track_count};
+ghost use Rattle.cckd_layer.specs.Writes.{IsSameFile, CountsLayer, is_broken_by as is_layer_broken_by};
+ghost use Rattle.cckd_stack.specs.Stacked.{AreLayersFrom, AreWhole, InLayer, CountsFault};
+ghost use Rattle.cckd_stack.specs.Writes.{AgreeAll, KeepsStack, StoresOnTop, ChangesLast, StopsLie, IsWriteRefused, is_broken_by};
+
+use crate::hardening::breaks;
+use crate::stack::Stack;
+use cckd_base::{Geometry, LayerFault, StackFault, Track, Unit};
+use cckd_layer::Layer;
+use cckd_shelf::Stage;
+
+/// Writes what bytes say as a track of the last of the layers.
+fn write_last<U: Unit, T: Stage>(
+    layers: &mut [Layer<U>],
+    stage: &mut T,
+    geo: &Geometry,
+    t: Track,
+    bytes: &[u8],
+) -> Result<(), LayerFault>
+    requires some { 1 ≤ length layers.old }
+    requires layers { AreLayersFrom geo.now 0 layers.old }
+    requires whole { AreWhole layers.old }
+    requires track { t.0 < track_count geo.now }
+    requires long { length bytes.now ≤ 65535 }
+    requires agree { Tells (seen T.Shows stage.old) → AgreeAll layers.old (seen T.Shows stage.old).world }
+    ensures stores { OnOk result (StoresOnTop U.null_bytes (t.0, U.value bytes.now) layers.old layers.new (seen T.Shows stage.old) (seen T.Shows stage.new)) }
+    ensures checked { OnOk result (U.fault geo.now t.0 bytes.now ≡ None) }
+    ensures refused { (why : Fault_of) → U.fault geo.now t.0 bytes.now ≡ Some why
+        → (result ≡ Err (LayerFault.Track why)) × (layers.new ≡ layers.old) × (seen T.Shows stage.new ≡ seen T.Shows stage.old) }
+    ensures map { is_layer_broken_by result ≡ false → IfErr result (λ why. KeepsStack U.null_bytes layers.old layers.new (seen T.Shows stage.old) (seen T.Shows stage.new)) }
+    ensures refusal { IfErr result (IsWriteRefused U.null_bytes (U.fault geo.now t.0 bytes.now) layers.old layers.new (seen T.Shows stage.old) (seen T.Shows stage.new) t.0 (U.value bytes.now)) }
+    ensures last { ChangesLast IsSameFile layers.old layers.new }
+    ensures layers { AreLayersFrom geo.now 0 layers.new }
+    ensures whole { is_layer_broken_by result ≡ false → AreWhole layers.new }
+    ensures counts { CountsLayer result (seen T.Shows stage.old).faults (seen T.Shows stage.new).faults }
+    ensures stops { StopsLie U.null_bytes geo.now layers.old (seen T.Shows stage.old) (seen T.Shows stage.new) }
+    ensures others { OnlyIn (length layers.old - 1) (seen T.Shows stage.old) (seen T.Shows stage.new) }
+{
+    let last = layers.len() - 1;
+    let layer = &mut layers[last];
+    layer.write(stage, t, bytes)
+}
+
+impl<U: Unit> Stack<U> {
+    /// Writes what bytes say as a track, where they are one. The last layer gets it.
+    pub fn write<T: Stage>(
+        &mut self,
+        stage: &mut T,
+        t: Track,
+        bytes: &[u8],
+    ) -> Result<(), StackFault>
+        requires whole { self.old.broken ≡ false }
+        requires track { t.0 < track_count self.old.geometry }
+        requires long { length bytes.now ≤ 65535 }
+        requires agree { Tells (seen T.Shows stage.old) → AgreeAll self.old.layers (seen T.Shows stage.old).world }
+
+        // At Ok the bytes are a track, and the stack is as before with what they say of it on top.
+        ensures stores { OnOk result (StoresOnTop U.null_bytes (t.0, U.value bytes.now) self.old.layers self.new.layers (seen T.Shows stage.old) (seen T.Shows stage.new)) }
+        ensures checked { OnOk result (U.fault self.old.geometry t.0 bytes.now ≡ None) }
+        ensures last { ChangesLast IsSameFile self.old.layers self.new.layers }
+        ensures geometry { self.new.geometry ≡ self.old.geometry }
+
+        // Bytes that are no track are refused by their first fault, and nothing is done. A refusal keeps the stack, unless a call
+        // that writes or syncs failed, which breaks it.
+        ensures refused { (why : Fault_of) → U.fault self.old.geometry t.0 bytes.now ≡ Some why
+            → (result ≡ Err (StackFault.Layer (LayerFault.Track why))) × (self.new ≡ self.old) × (seen T.Shows stage.new ≡ seen T.Shows stage.old) }
+        ensures map { self.new.broken ≡ false → IfErr result (λ why. KeepsStack U.null_bytes self.old.layers self.new.layers (seen T.Shows stage.old) (seen T.Shows stage.new)) }
+        ensures refusal { IfErr result (InLayer (IsWriteRefused U.null_bytes (U.fault self.old.geometry t.0 bytes.now) self.old.layers self.new.layers (seen T.Shows stage.old) (seen T.Shows stage.new) t.0 (U.value bytes.now))) }
+        ensures broken { self.new.broken ≡ is_broken_by result }
+        ensures counts { CountsFault result (seen T.Shows stage.old).faults (seen T.Shows stage.new).faults }
+
+        // A stop leaves what it could leave before, or the stack as it was, or something of both.
+        ensures stops { StopsLie U.null_bytes self.old.geometry self.old.layers (seen T.Shows stage.old) (seen T.Shows stage.new) }
+        ensures others { OnlyIn (length self.old.layers - 1) (seen T.Shows stage.old) (seen T.Shows stage.new) }
+    {
+        let geo = self.geometry;
+        match write_last(self.layers.as_mut_slice(), stage, &geo, t, bytes) {
+            Ok(()) => Ok(()),
+            Err(fault) => {
+                self.broken = breaks(&fault);
+                Err(StackFault::Layer(fault))
+            }
+        }
+    }
+}
