@@ -82,15 +82,16 @@ plan_back s next w new rest stays a =
     subst (λ (x : LayerState). Agrees x new) (sym same) (subst (λ (x : World). Agrees s x) (sym stays) a)
 
 -- where nothing waits to be freed, a try that is denied tells that there is no room
-pub denied_lacks : (s next : LayerState) (old new : Seen) (t : ℕ) (need : Option ℕ) (r : Result Room LayerFault) → next ≡ with_plan s next.plan → Stays old new → HasNoneToFree s.plan
+pub denied_lacks : (s next : LayerState) (old new : Seen) (t : ℕ) (need : Option ℕ) (r : Result Room LayerFault) → next ≡ with_plan s next.plan → next.plan.limit ≡ s.plan.limit → Stays old new → HasNoneToFree s.plan
     → (Tells old → Agrees s old.world → IfErr r (IsDeniedFor s t need)) → IfErr r IsDenial → IfErr r (IsNoRoomIn s next old new t need)
-denied_lacks s next old new t need (Ok room) rest stays none denied kind = tt
-denied_lacks s next old new t need (Err (fault.Full full)) rest stays none denied kind = λ told a.
+denied_lacks s next old new t need (Ok room) rest limit stays none denied kind = tt
+denied_lacks s next old new t need (Err (fault.Full full)) rest limit stays none denied kind = λ told a.
     let d = denied told a in
     let tables = ap (λ (x : LayerState). x.tables) rest in
     record {
       tried = s.plan;
       agrees = plan_back s next old.world new.world rest (stays told) a;
+      limit = sym limit;
       none = none;
       wanted = d.0;
       wants = record {
@@ -99,10 +100,10 @@ denied_lacks s next old new t need (Err (fault.Full full)) rest stays none denie
       };
       lacks = d.2;
     }
-denied_lacks s next old new t need (Err (fault.Track why)) rest stays none denied kind = absurd kind
-denied_lacks s next old new t need (Err fault.ReadFault) rest stays none denied kind = λ told a. tt
-denied_lacks s next old new t need (Err fault.WriteFault) rest stays none denied kind = absurd kind
-denied_lacks s next old new t need (Err fault.SyncFault) rest stays none denied kind = absurd kind
+denied_lacks s next old new t need (Err (fault.Track why)) rest limit stays none denied kind = absurd kind
+denied_lacks s next old new t need (Err fault.ReadFault) rest limit stays none denied kind = λ told a. tt
+denied_lacks s next old new t need (Err fault.WriteFault) rest limit stays none denied kind = absurd kind
+denied_lacks s next old new t need (Err fault.SyncFault) rest limit stays none denied kind = absurd kind
 
 -- where there is room, no try is denied
 pub denied_finds : (s : LayerState) (t : ℕ) (need : Option ℕ) (full : Full) → FindsRoom s t need → IsDeniedFor s t need (fault.Full full) → ⊥

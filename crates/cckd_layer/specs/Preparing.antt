@@ -36,11 +36,12 @@ pub record SuitsFile (s : LayerState) (t : ℕ) (room : Room) (w : World) : Type
   pub new : is_some room.places.table ≡ true → place_for (t / 256) s.tables.stages.words ≡ None
   pub length_is : IsStaged t s.tables.stages → room.len ≡ length (file_of w s.slot)
 
--- A write has no room: its places aren't there on pieces with which the layer agrees with its file, and of which none waits
--- to be freed.
+-- A write has no room: its places aren't there on pieces with which the layer agrees with its file, with the layer's limit,
+-- and of which none waits to be freed.
 pub record LacksRoom (s : LayerState) (w : World) (t : ℕ) (need : Option ℕ) (full : Full) : Type 0 where
   pub tried : Plan
   pub agrees : Agrees (with_plan s tried) w
+  pub limit : tried.limit ≡ s.plan.limit
   pub none : HasNoneToFree tried
   pub wanted : Bool
   pub wants : WantsTable s t wanted

@@ -16,7 +16,7 @@ returns-in-Err-clause-full g c =
     let next = c.try_places-tried.new.self in
     subst (λ (x : LayerState). IsNoRoomIn x next old new c.args.t.0 c.args.need c.in-Err.fault) c.has_spare.ensures.same
     (subst (λ (r : Result Room LayerFault). IfErr r (IsNoRoomIn m next old new c.args.t.0 c.args.need)) c.in-Err.is
-    (denied_lacks m next old new c.args.t.0 c.args.need c.try_places-tried.result c.try_places-tried.ensures.rest c.try_places-tried.ensures.reads.kept
+    (denied_lacks m next old new c.args.t.0 c.args.need c.try_places-tried.result c.try_places-tried.ensures.rest c.try_places-tried.ensures.limit c.try_places-tried.ensures.reads.kept
     (c.if-not-waits.ensures.none refl) c.try_places-tried.ensures.full c.try_places-tried.ensures.kind))
 
 pub returns-in-Full-clause-finds : goal.returns-in-Full-clause-finds

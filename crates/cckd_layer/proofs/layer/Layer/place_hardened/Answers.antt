@@ -19,5 +19,5 @@ returns-clause-full g c = λ settled.
     let new = seen g.T.Shows c.try_places.new.stage in
     let none : HasNoneToFree c.args.self.now.plan = record { leaving = settled.leaving; pending = settled.pending } in
     subst (λ (x : LayerState). IfErr c.try_places.result (IsNoRoomIn x c.try_places.new.self old new c.args.t.0 c.args.need)) same
-    (denied_lacks m c.try_places.new.self old new c.args.t.0 c.args.need c.try_places.result c.try_places.ensures.rest c.try_places.ensures.reads.kept
+    (denied_lacks m c.try_places.new.self old new c.args.t.0 c.args.need c.try_places.result c.try_places.ensures.rest c.try_places.ensures.limit c.try_places.ensures.reads.kept
     (subst (λ (x : LayerState). HasNoneToFree x.plan) (sym same) none) c.try_places.ensures.full c.try_places.ensures.kind)
