@@ -90,7 +90,8 @@ impl Bench {
     fn write(&mut self, number: u32, call: u32) -> bool {
         let layout = self.layer.layout();
         let bytes = self.bytes.as_mut_slice();
-        if self.layer.broken() || number >= layout.geo.tracks() || bytes.len() > 65_000 {
+        let fits = bytes.len() > FRAME && bytes.len() < 65_000;
+        if self.layer.broken() || number >= layout.geo.tracks() || !fits {
             return false;
         }
         let t = Track(number);
