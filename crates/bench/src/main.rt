@@ -1,4 +1,4 @@
-//! What parts of the disk cost, by the first word: `frames`, `space` or `turn`.
+//! What parts of the disk cost, by the first word: `frames`, `layer`, `space` or `turn`.
 //!
 //! The scripts of `bench/` run it. With no words it makes a few calls of the space and of the turn, and prints only what
 //! they added up to.
@@ -6,6 +6,7 @@
 
 mod counter;
 mod frames;
+mod layer;
 mod race;
 mod sequence;
 mod space;
@@ -21,6 +22,13 @@ fn main(rt: HostRuntime) -> io::Result<()> {
     };
     match word.as_str() {
         "frames" => frames::measure(&rt, words.next()),
+        "layer" => {
+            let file = words.next();
+            let which = words.next();
+            let len = words.next();
+            let calls = words.next();
+            layer::measure(&rt, file, which, len, calls, words.next())
+        }
         "space" => {
             let tracks = words.next();
             space::measure(&rt, tracks, words.next())
