@@ -1,12 +1,12 @@
 //! Writing: a track of the last layer gets other bytes.
-ghost use Rattle.std.specs.Prelude.{◌≡◌, ◌-◌, ◌<◌, ◌≤◌, length, false, Some, None, Err, OnOk, IfErr};
+ghost use Rattle.std.specs.Prelude.{◌≡◌, ◌-◌, ◌<◌, ◌≤◌, length, true, false, Some, None, Err, OnOk, IfErr};
 ghost use Rattle.cckd_shelf.specs.Seen.{seen, Tells};
 ghost use Rattle.cckd_shelf.specs.Frame.{OnlyIn};
 ghost use Rattle.cckd_base.specs.declared.fault.TrackFault.{TrackFault as Fault_of};
 ghost use Rattle.cckd_base.specs.Geometry.{track_count};
 ghost use Rattle.cckd_layer.specs.Writes.{IsSameFile, CountsLayer, is_broken_by as is_layer_broken_by};
 ghost use Rattle.cckd_stack.specs.Stacked.{AreLayersFrom, AreWhole, InLayer, CountsFault};
-ghost use Rattle.cckd_stack.specs.Writes.{AgreeAll, KeepsStack, StoresOnTop, ChangesLast, StopsLie, IsWriteRefused, is_broken_by};
+ghost use Rattle.cckd_stack.specs.Writes.{AgreeAll, KeepsStack, StoresOnTop, EndsWith, ChangesLast, StopsLie, IsWriteRefused, is_broken_by};
 
 use crate::hardening::breaks;
 use crate::stack::Stack;
@@ -30,6 +30,7 @@ fn write_last<U: Unit, T: Stage>(
     requires agree { Tells (seen T.Shows stage.old) → AgreeAll layers.old (seen T.Shows stage.old).world }
     ensures stores { OnOk result (StoresOnTop U.null_bytes (t.0, U.value bytes.now) layers.old layers.new (seen T.Shows stage.old) (seen T.Shows stage.new)) }
     ensures checked { OnOk result (U.fault geo.now t.0 bytes.now ≡ None) }
+    ensures marked { OnOk result (EndsWith (λ layer. layer.marked ≡ true) layers.new) }
     ensures refused { (why : Fault_of) → U.fault geo.now t.0 bytes.now ≡ Some why
         → (result ≡ Err (LayerFault.Track why)) × (layers.new ≡ layers.old) × (seen T.Shows stage.new ≡ seen T.Shows stage.old) }
     ensures map { is_layer_broken_by result ≡ false → IfErr result (λ why. KeepsStack U.null_bytes layers.old layers.new (seen T.Shows stage.old) (seen T.Shows stage.new)) }
@@ -62,6 +63,7 @@ impl<U: Unit> Stack<U> {
         // At Ok the bytes are a track, and the stack is as before with what they say of it on top.
         ensures stores { OnOk result (StoresOnTop U.null_bytes (t.0, U.value bytes.now) self.old.layers self.new.layers (seen T.Shows stage.old) (seen T.Shows stage.new)) }
         ensures checked { OnOk result (U.fault self.old.geometry t.0 bytes.now ≡ None) }
+        ensures marked { OnOk result (EndsWith (λ layer. layer.marked ≡ true) self.new.layers) }
         ensures last { ChangesLast IsSameFile self.old.layers self.new.layers }
         ensures geometry { self.new.geometry ≡ self.old.geometry }
 

@@ -1,10 +1,10 @@
-use Rattle.std.proofs.Common.{◌≡◌, ◌-◌, length, Some, None, OnOk, IfErr, refl, sym, ap, subst, arith, get_or}
+use Rattle.std.proofs.Common.{◌≡◌, ◌-◌, true, length, Some, None, OnOk, IfErr, refl, sym, ap, subst, arith, get_or}
 use Rattle.cckd_shelf.specs.Seen.{seen}
 use Rattle.cckd_base.specs.declared.geometry.Geometry.{Geometry}
 use Rattle.cckd_layer.specs.Storing.{IsWriteRefusal}
 use Rattle.cckd_layer.specs.Mounted.{LayerState}
 use Rattle.cckd_layer.specs.Writes.{IsSameFile}
-use Rattle.cckd_stack.proofs.WritesLemmas.{set_device, set_last, set_layers, set_stores_ok, set_keeps_harmless, set_geometry, set_back, set_refusal, set_lies, set_others}
+use Rattle.cckd_stack.proofs.WritesLemmas.{set_device, set_ends, set_last, set_layers, set_stores_ok, set_keeps_harmless, set_geometry, set_back, set_refusal, set_lies, set_others}
 use Rattle.cckd_stack.proofs.writing.write_last.Goals as goal
 
 pub write-requires-clause-track : goal.write-requires-clause-track
@@ -101,3 +101,11 @@ returns-clause-others g c =
     set_others layers n x y (ap (λ (d : LayerState). get_or layers n d) c.index-layers-last.is) (omega (arith, c.requires.some))
     g.U.Unit.null_bytes c.args.geo.now (seen g.T.Shows c.args.stage.now) (seen g.T.Shows c.write.new.stage) c.requires.layers c.write.ensures.same c.write.ensures.others
     n refl
+
+pub returns-clause-marked : goal.returns-clause-marked
+returns-clause-marked g c =
+    let layers = c.args.layers.now in
+    let n = length layers - 1 in
+    let x = get_or layers n c.index-layers-last.result in
+    let y = c.write.new.self in
+    set_ends layers n x y (ap (λ (d : LayerState). get_or layers n d) c.index-layers-last.is) (omega (arith, c.requires.some)) (λ layer. layer.marked ≡ true) c.write.result c.write.ensures.marked
