@@ -17,7 +17,7 @@ use Rattle.cckd_layer.specs.Writes.{Agrees, AgreesAgain, KeepsMap, KeepsMapWith,
 use Rattle.cckd_layer.specs.Acts.{spaces_of, settled_all}
 
 pub same_layer_twice : (a b c : LayerState) → IsSameLayer a b → IsSameLayer b c → IsSameLayer a c
-same_layer_twice a b c h k = record { slot = k.slot ∙ h.slot; header = k.header ∙ h.header; layout = k.layout ∙ h.layout; limit = k.limit ∙ h.limit }
+same_layer_twice a b c h k = record { slot = k.slot ∙ h.slot; header = k.header ∙ h.header; layout = k.layout ∙ h.layout; limit = k.limit ∙ h.limit; marked = k.marked ∙ h.marked }
 
 pub committed_same : (s next : LayerState) → IsCommitted s next → IsSameLayer s next
 committed_same s next c = record {
@@ -25,6 +25,7 @@ committed_same s next c = record {
   header = ap (λ (x : LayerState). x.header) c.rest;
   layout = ap (λ (t : TableView). t.layout) c.tables.rest;
   limit = c.pieces.settled.limit ∙ c.pieces.free.limit;
+  marked = ap (λ (x : LayerState). x.marked) c.rest;
 }
 
 pub released_same : (s next : LayerState) → IsReleased s next → IsSameLayer s next
@@ -33,6 +34,7 @@ released_same s next c = record {
   header = ap (λ (x : LayerState). x.header) c.rest;
   layout = ap (λ (x : LayerState). x.tables.layout) c.rest;
   limit = c.pieces.limit;
+  marked = ap (λ (x : LayerState). x.marked) c.rest;
 }
 
 -- behind a commit and the sync that makes it stay, nothing is under way

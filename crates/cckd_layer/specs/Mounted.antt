@@ -27,7 +27,7 @@ use Rattle.cckd_tables.specs.Tables.{TableView, AreOf}
 use Rattle.cckd_layer.specs.Stands.{LayerView, nothing_staged}
 use Rattle.cckd_layer.specs.Reads.{OfFile}
 
--- All that a layer is: its slot, the headers that its file had, its tables and its pieces; whether it was changed since
+-- All that a layer is: its slot, the headers that were last read from its file or written to it, its tables and its pieces; whether it was changed since
 -- it was mounted or closed, whether all that was written is on the disk for good, and whether a write, a cut or a sync failed.
 pub record LayerState : Type 0 where
   pub slot : ℕ

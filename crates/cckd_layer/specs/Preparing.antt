@@ -86,3 +86,9 @@ IsUnplaced result = Unit {0}
 pub record IsUntouched (s next : LayerState) (old new : Seen) : Type 0 where
   pub rest : next ≡ with_plan s next.plan
   pub stays : Stays old new
+
+-- nothing was done to the outside, and the layer counts as changed and as hardened where it did before
+pub record IsUndone (s next : LayerState) (old new : Seen) : Type 0 where
+  pub stays : Stays old new
+  pub marked : next.marked ≡ s.marked
+  pub hardened : next.hardened ≡ s.hardened

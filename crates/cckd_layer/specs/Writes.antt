@@ -136,12 +136,13 @@ IsOutside (fault.Track why) = ⊥
 IsOutside (fault.Full full) = ⊥
 IsOutside _ = Unit {0}
 
--- the same slot, headers and layout, and the same limit
+-- the same slot, headers, layout and limit, and marked as before
 pub record IsSameLayer (old new : LayerState) : Type 0 where
   pub slot : new.slot ≡ old.slot
   pub header : new.header ≡ old.header
   pub layout : new.tables.layout ≡ old.tables.layout
   pub limit : new.plan.limit ≡ old.plan.limit
+  pub marked : new.marked ≡ old.marked
 
 -- the same slot, layout and limit
 pub record IsSameFile (old new : LayerState) : Type 0 where

@@ -49,7 +49,6 @@ impl<U: Unit> Layer<U> {
         requires can_read { CanRead self.old (seen T.Shows stage.old) }
         ensures hardened { OnOk result (self.new.hardened ≡ true) }
         ensures settled { OnOk result (IsSettled self.new) }
-        ensures marked { self.new.marked ≡ self.old.marked }
         ensures same { IsSameLayer self.old self.new }
         ensures map { OnOk result (KeepsMap U.null_bytes self.old self.new (seen T.Shows stage.old) (seen T.Shows stage.new)) }
         ensures holds { OnOk result (StopHolds U.null_bytes self.old (seen T.Shows stage.old) (seen T.Shows stage.new)) }
@@ -79,7 +78,6 @@ impl<U: Unit> Layer<U> {
         ensures holds { OnOk result (StopHolds U.null_bytes self.old (seen T.Shows stage.old) (seen T.Shows stage.new)) }
         ensures map { OnOk result (KeepsMap U.null_bytes self.old self.new (seen T.Shows stage.old) (seen T.Shows stage.new)) }
         ensures same { IsSameLayer self.old self.new }
-        ensures marked { self.new.marked ≡ self.old.marked }
         ensures still { self.old.hardened ≡ true → IsOk result × (self.new ≡ self.old) × (seen T.Shows stage.new ≡ seen T.Shows stage.old) }
 
         // At a fault of reading all is as before, and any other breaks the layer.

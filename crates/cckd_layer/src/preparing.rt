@@ -193,7 +193,8 @@ impl<U: Unit> Layer<U> {
         self.space.has_leaving() || self.space.has_pending()
     }
 
-    /// Claims the places of a write to a track, all or none; or answers nothing, where something may be freed first.
+    /// Claims the places of a write to a track, all or none; or answers nothing, where something may be freed first, or few
+    /// pieces may still be added.
     fn place_at_once<T: Stage>(
         &mut self,
         stage: &mut T,
@@ -236,8 +237,8 @@ impl<U: Unit> Layer<U> {
         }
     }
 
-    /// Claims the places of a write to a track, all or none. Where they aren't there and something waits to be freed, it
-    /// hardens, and tries again.
+    /// Claims the places of a write to a track, all or none. Where they aren't there and something waits to be freed, or few
+    /// pieces may still be added, it hardens, and tries again.
     pub(crate) fn find_places<T: Stage>(
         &mut self,
         stage: &mut T,

@@ -19,7 +19,7 @@ ghost use Rattle.cckd_layer.specs.Current.{claim, IsAmong};
 ghost use Rattle.cckd_layer.specs.Writes.{Agrees, AgreesIn, AgreesWith, KeepsMap, KeepsMapWith, StopsWithin, StopsWithinWith, IsAct, IsPut, IsSameFile, AgreesAgainWith, CanStage, StoresIn, CountsLayer, claim_of, entry_now, failed_by, is_broken_by};
 ghost use Rattle.cckd_layer.specs.Storing.{stored_as, padded, need_of, entry_of_stored, IsStoredOf, IsPutTo, IsClaimed, IsOneWrite, HasRoomFor, IsMarkedFrom, CanPlace, IsPrepared, IsStoreRefusal, IsWriteRefusal, IsHarmless, StoresTrack, breaks};
 ghost use Rattle.cckd_base.specs.declared.fault.TrackFault.{TrackFault as Fault_of};
-ghost use Rattle.cckd_layer.specs.Preparing.{HasNoneToFree, IsRoom, IsDenial};
+ghost use Rattle.cckd_layer.specs.Preparing.{HasNoneToFree, IsRoom, IsDenial, IsUndone};
 ghost use Rattle.cckd_layer.specs.Marks.{WritesOrSyncs};
 
 use crate::hardening::fault_of;
@@ -319,7 +319,7 @@ impl<U: Unit> Layer<U> {
         ensures act { IsAct [] U.null_bytes self.old self.new (seen T.Shows stage.old) (seen T.Shows stage.new) }
         ensures broken { self.new.broken ≡ is_broken_by result }
         ensures counts { CountsLayer result (seen T.Shows stage.old).faults (seen T.Shows stage.new).faults }
-        ensures still { 2 ≤ free_count self.old.tables.stages → HasNoneToFree self.old.plan → 4 ≤ self.old.plan.spare → Stays (seen T.Shows stage.old) (seen T.Shows stage.new) }
+        ensures still { 2 ≤ free_count self.old.tables.stages → HasNoneToFree self.old.plan → 4 ≤ self.old.plan.spare → IsUndone self.old self.new (seen T.Shows stage.old) (seen T.Shows stage.new) }
         ensures alone { Tells (seen T.Shows stage.old) → Agrees self.old (seen T.Shows stage.old).world → 2 ≤ free_count self.old.tables.stages → 4 ≤ self.old.plan.spare
             → HasRoomFor U.null_bytes self.old t.0 (stored_as U.value form bytes.now) → Stays (seen T.Shows stage.old) (seen T.Shows stage.new) × (self.new.marked ≡ self.old.marked) }
     {
@@ -358,7 +358,7 @@ impl<U: Unit> Layer<U> {
         ensures broken { self.new.broken ≡ is_broken_by result }
         ensures counts { CountsLayer result (seen T.Shows stage.old).faults (seen T.Shows stage.new).faults }
         ensures still { 2 ≤ free_count self.old.tables.stages → HasNoneToFree self.old.plan → 4 ≤ self.old.plan.spare
-            → IfErr result (λ why. IsDenial why → Stays (seen T.Shows stage.old) (seen T.Shows stage.new)) }
+            → IfErr result (λ why. IsDenial why → IsUndone self.old self.new (seen T.Shows stage.old) (seen T.Shows stage.new)) }
         ensures alone { Tells (seen T.Shows stage.old) → Agrees self.old (seen T.Shows stage.old).world → self.old.marked ≡ true → 2 ≤ free_count self.old.tables.stages → 4 ≤ self.old.plan.spare
             → HasRoomFor U.null_bytes self.old t.0 (stored_as U.value form bytes.now) → IsOneWrite self.old.slot (padded (stored_as U.value form bytes.now)) (seen T.Shows stage.old) (seen T.Shows stage.new) }
     {
@@ -400,7 +400,7 @@ impl<U: Unit> Layer<U> {
         ensures refusal { IfErr result (IsStoreRefusal U.null_bytes self.old self.new (seen T.Shows stage.old) (seen T.Shows stage.new) t.0 bytes.now) }
         ensures kept { IfErr result (λ why. IsDenial why → KeepsMap U.null_bytes self.old self.new (seen T.Shows stage.old) (seen T.Shows stage.new)) }
         ensures still { 2 ≤ free_count self.old.tables.stages → HasNoneToFree self.old.plan → 4 ≤ self.old.plan.spare
-            → IfErr result (λ why. IsDenial why → Stays (seen T.Shows stage.old) (seen T.Shows stage.new)) }
+            → IfErr result (λ why. IsDenial why → IsUndone self.old self.new (seen T.Shows stage.old) (seen T.Shows stage.new)) }
         ensures broken { self.new.broken ≡ is_broken_by result }
         ensures counts { CountsLayer result (seen T.Shows stage.old).faults (seen T.Shows stage.new).faults }
 
@@ -439,7 +439,7 @@ impl<U: Unit> Layer<U> {
             → (result ≡ Err (LayerFault.Track why)) × (self.new ≡ self.old) × (seen T.Shows stage.new ≡ seen T.Shows stage.old) }
         ensures kept { IfErr result (λ why. IsHarmless why → KeepsMap U.null_bytes self.old self.new (seen T.Shows stage.old) (seen T.Shows stage.new)) }
         ensures still { 2 ≤ free_count self.old.tables.stages → HasNoneToFree self.old.plan → 4 ≤ self.old.plan.spare
-            → IfErr result (λ why. IsHarmless why → Stays (seen T.Shows stage.old) (seen T.Shows stage.new)) }
+            → IfErr result (λ why. IsHarmless why → IsUndone self.old self.new (seen T.Shows stage.old) (seen T.Shows stage.new)) }
         ensures broken { self.new.broken ≡ is_broken_by result }
         ensures counts { CountsLayer result (seen T.Shows stage.old).faults (seen T.Shows stage.new).faults }
 
