@@ -22,7 +22,7 @@ use Rattle.std.proofs.lemmas.Bool.{eqb-true, not-false}
 use Rattle.cckd_layer.proofs.MountLemmas.{stands_reads}
 
 -- headers without a fault fit the layout that they say
-fits_said : (identifiers : List (List ℕ)) (l : Layout) (file : List ℕ) (h : ImageHeader) → IsHeaded identifiers l file → h ≡ header_of (headers_of file) → FitsLayout l h.cckd
+pub fits_said : (identifiers : List (List ℕ)) (l : Layout) (file : List ℕ) (h : ImageHeader) → IsHeaded identifiers l file → h ≡ header_of (headers_of file) → FitsLayout l h.cckd
 unfolding header_fault
 fits_said identifiers l file h headed is =
     let headers = headers_of file in

@@ -47,3 +47,7 @@ pub mod ThenLemmas
 pub mod TogetherLemmas
 pub mod TotalsLemmas
 pub mod WritesLemmas
+pub mod ClippedLemmas
+pub mod TiedLemmas
+pub mod CompleteLemmas
+pub mod ExcessLemmas

@@ -1,13 +1,14 @@
 -- The spaces in use of an image stand apart, in order, and so do the pieces that are made of them.
-use Rattle.std.proofs.Common.{◌≡◌, ℕ, List, [], ◌∷◌, length, Some, None, Ok, Err, refl, sym, subst, inl, inr, arith}
+use Rattle.std.proofs.Common.{◌≡◌, ℕ, ◌≤◌, List, [], ◌∷◌, length, Some, None, Ok, Err, refl, sym, subst, inl, inr, arith}
 use Rattle.cckd_base.specs.declared.geometry.Layout.{Layout}
 use Rattle.cckd_base.specs.declared.space.Extent.{Extent}
 use Rattle.cckd_base.specs.Entry.{word_at, entry_at}
+use Rattle.cckd_base.specs.Geometry.{area_of, IsLayout}
 use Rattle.cckd_base.specs.Survey.{Item, header_space, met, kept_with, kept_after, items, by_position, used_spaces, HasNoMisfit, StandApart}
-use Rattle.cckd_base.specs.Image.{IsImage}
 use Rattle.cckd_base.proofs.MemberLemmas.{In}
 use Rattle.cckd_base.proofs.CleanLemmas.{IsClean, map_none, kept_one, surveyed_clean}
-use Rattle.cckd_base.proofs.ImageLemmas.{IsNamed, used_named, in_position, survey_of_image}
+use Rattle.cckd_base.proofs.ImageLemmas.{IsNamed, used_named, in_position, word_fits, entry_fits, survey_of_image}
+use Rattle.cckd_base.proofs.HeaderLemmas.{headed_layout}
 use Rattle.cckd_base.proofs.PlaceLemmas.{table_inside, stored_inside}
 use Rattle.cckd_space.proofs.LaidLemmas.{laid_pieces_of}
 use Rattle.cckd_tables.specs.Inside.{IsFormed, AreFormed}
@@ -15,7 +16,7 @@ use Rattle.cckd_tables.specs.Kept.{ShareNone}
 use Rattle.cckd_tables.proofs.MeetLemmas.{apart_more, hold_once}
 use Rattle.cckd_tables.proofs.OrderLemmas.{in_order_within, formed_moved, position_moves, position_stands}
 use Rattle.cckd_tables.proofs.TakeLemmas.{have_bytes}
-use Rattle.cckd_layer.specs.Sits.{IsWhole}
+use Rattle.cckd_layer.specs.Sits.{IsWhole, identifiers_for}
 use Rattle.cckd_layer.proofs.MountLemmas.{IsFound}
 
 one_shares : (e : Extent) → ShareNone (e ∷ [])
@@ -34,32 +35,32 @@ all_formed : (n : ℕ) (es : List Extent) → ((e : Extent) → In e es → IsFo
 all_formed n [] f = tt
 all_formed n (e ∷ es) f = (f e (inl refl), all_formed n es (λ x m. f x (inr m)))
 
--- each space that an image names is in use from its first byte on, and ends inside the file
-named_formed : (l : Layout) (file : List ℕ) → IsImage l file → (e : Extent) → IsNamed l file e → IsFormed (length file) e
-named_formed l file image e (inl is) = subst (IsFormed (length file)) (sym is) (record {
+-- each space that a sound image names is in use from its first byte on, and ends inside the file
+named_formed : (l : Layout) (file : List ℕ) → IsLayout l → area_of l.groups ≤ length file → HasNoMisfit l file → (e : Extent) → IsNamed l file e → IsFormed (length file) e
+named_formed l file layout area clean e (inl is) = subst (IsFormed (length file)) (sym is) (record {
   some = omega arith;
   holds = omega arith;
-  within = let area = image.area in omega (arith, area);
+  within = omega (arith, area);
 })
-named_formed l file image e (inr (inl g)) =
-    let k = table_inside l (length file) g.0 (word_at l file g.0) (image.words g.0 g.1) g.2 in
+named_formed l file layout area clean e (inr (inl g)) =
+    let k = table_inside l (length file) g.0 (word_at l file g.0) (word_fits l file clean g.0 g.1) g.2 in
     subst (IsFormed (length file)) (sym g.3) (record { some = omega arith; holds = omega arith; within = k.1 })
-named_formed l file image e (inr (inr t)) =
+named_formed l file layout area clean e (inr (inr t)) =
     let entry = entry_at l file t.0 in
-    let k = stored_inside l (length file) t.0 entry (image.entries t.0 t.1) t.2 in
+    let k = stored_inside l (length file) t.0 entry (entry_fits l file layout clean t.0 t.1) t.2 in
     subst (IsFormed (length file)) (sym t.3) (record {
       some = omega (arith, k.some);
       holds = omega (arith, k.holds, k.within);
       within = omega (arith, k.within);
     })
 
-used_stand : (l : Layout) (file : List ℕ) → HasNoMisfit l file → IsImage l file → StandApart 0 (used_spaces l file) (length file)
+pub used_stand : (l : Layout) (file : List ℕ) → IsLayout l → area_of l.groups ≤ length file → HasNoMisfit l file → StandApart 0 (used_spaces l file) (length file)
 unfolding used_spaces
-used_stand l file clean image =
+used_stand l file layout area clean =
     let n = length file in
     let kept = kept_after (header_space l.groups ∷ []) (items l file) in
     let apart = kept_apart (header_space l.groups ∷ []) (items l file) (one_shares (header_space l.groups)) (surveyed_clean l file clean) in
-    let formed = all_formed n kept (λ e m. named_formed l file image e (used_named l file clean e (in_position e kept m))) in
+    let formed = all_formed n kept (λ e m. named_formed l file layout area clean e (used_named l file clean e (in_position e kept m))) in
     in_order_within n 0 (by_position kept) (formed_moved n kept (by_position kept) (position_moves kept) formed) (omega arith)
     (position_stands kept (have_bytes n kept formed) apart)
 
@@ -71,5 +72,5 @@ found_whole l file whole =
       headed = whole.headed;
       clean = clean;
       snug = whole.image.snug;
-      laid = laid_pieces_of 0 (used_spaces l file) (length file) (used_stand l file clean whole.image);
+      laid = laid_pieces_of 0 (used_spaces l file) (length file) (used_stand l file (headed_layout (identifiers_for l) l file whole.headed) whole.image.area clean);
     }

@@ -13,7 +13,8 @@ use Rattle.cckd_layer.specs.Held.{NullBytes, Tracks, Later, IsLater, Stores, Lie
 use Rattle.cckd_layer.specs.Mounted.{LayerState}
 use Rattle.cckd_layer.specs.Writes.{Agrees, AgreesIn, KeepsMap, StopsWithin, StopHolds, StaysClosed, IsSameFile, map_of}
 use Rattle.cckd_layer.specs.Storing.{StoresTrack}
-use Rattle.cckd_layer.specs.Callers.{StopsWritten, HoldsWritten, ClosesFile}
+use Rattle.cckd_layer.specs.Callers.{StopsWritten, HoldsWritten, ClosesFile, StoresTied}
+use Rattle.cckd_layer.specs.Loose.{Completes}
 use Rattle.cckd_layer.proofs.ThenLemmas.{same_file_twice, within_as}
 
 -- what keeps within what was written keeps within more
@@ -135,3 +136,17 @@ pub closes_result : (r : Result (Unit {0}) LayerFault) (null : NullBytes) (more 
     → (Tells b → Agrees m b.world → OnOk r (StaysClosed m.tables.layout m.slot c.world)) → OnOk r (ClosesFile s a c)
 closes_result (Ok done) null more s m a b c tells same h k = closes_written null more s m a b c tells same h k
 closes_result (Err why) null more s m a b c tells same h k = tt
+
+-- what is written behind a completing is written to the layer that was tied to its file
+pub stored_tied : (null : NullBytes) (more : Later) (s m n : LayerState) (a b c : Seen) → (Tells a → Tells b) → m.tables.layout ≡ s.tables.layout → Completes null s m a b → StoresTrack null m n more.track more.bytes b c
+    → StoresTied null more s n a c
+stored_tied null more s m n a b c tells layout h k told =
+    let whole = h told in
+    let p = k (tells told) whole.agrees in
+    record {
+      agrees = p.agrees;
+      stores = record {
+        here = p.stores.here;
+        others = λ u low other. p.stores.others u (subst (λ (l : Layout). u < track_count l.geo) (sym layout) low) other ∙ whole.same.each u low;
+      };
+    }

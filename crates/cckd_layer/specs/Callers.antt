@@ -1,11 +1,11 @@
 -- What the calls of a layer make one after another.
-use Rattle.std.specs.Prelude.{ℕ, List, ◌∷◌, Some}
+use Rattle.std.specs.Prelude.{ℕ, List, [], ◌∷◌, Some}
 use Rattle.cckd_shelf.specs.Seen.{Seen, Tells}
 use Rattle.cckd_shelf.specs.Outcomes.{EachOutcome, AtEach}
 use Rattle.cckd_base.specs.Geometry.{track_count}
 use Rattle.cckd_layer.specs.Held.{NullBytes, Tracks, Later, Stores, LiesWithin, Keeps, Holds}
 use Rattle.cckd_layer.specs.Mounted.{LayerState}
-use Rattle.cckd_layer.specs.Writes.{Agrees, StaysClosed, map_of}
+use Rattle.cckd_layer.specs.Writes.{Agrees, StaysClosed, StoresIn, map_of}
 
 -- a track that is written, and what is stored of its bytes
 abbrev pub written : (List ℕ → List ℕ) → ℕ → List ℕ → Later
@@ -28,3 +28,7 @@ HoldsWritten null more s old new =
 -- the file is that of a closed image then, and a stop leaves it as it is
 abbrev pub ClosesFile : LayerState → Seen → Seen → Type 0
 ClosesFile s old new = Tells old → Agrees s old.world → StaysClosed s.tables.layout s.slot new.world
+
+-- a layer that was tied to its file agrees with it then, and has these bytes of the track, and of the others those that it had
+abbrev pub StoresTied : NullBytes → Later → LayerState → LayerState → Seen → Seen → Type 0
+StoresTied null more s next old new = Tells old → StoresIn [] null s next more.track (Some more.bytes) old new

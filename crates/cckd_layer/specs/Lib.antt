@@ -11,6 +11,7 @@ pub mod Closed
 pub mod Reads
 pub mod Mounted
 pub mod Writes
+pub mod Loose
 pub mod Preparing
 pub mod Storing
 pub mod Callers

@@ -5,8 +5,9 @@ ghost use Rattle.cckd_shelf.specs.Seen.{seen};
 ghost use Rattle.cckd_shelf.specs.Frame.{OnlyIn};
 ghost use Rattle.cckd_base.specs.Geometry.{track_count};
 ghost use Rattle.cckd_layer.specs.Writes.{AgreesIn};
+ghost use Rattle.cckd_layer.specs.Loose.{TiedIn};
 ghost use Rattle.cckd_layer.specs.Storing.{StoresTrack};
-ghost use Rattle.cckd_layer.specs.Callers.{written, StopsWritten, HoldsWritten, ClosesFile};
+ghost use Rattle.cckd_layer.specs.Callers.{written, StopsWritten, HoldsWritten, ClosesFile, StoresTied};
 
 use crate::{Layer, layers_agree};
 use cckd_base::{LayerFault, Track, Unit};
@@ -81,4 +82,24 @@ fn write_times<U: Unit, T: Stage>(
         }
     }
     layer.harden(stage)
+}
+
+/// Makes the file of a layer snug, if it isn't, writes a track, and closes the image.
+pub(crate) fn complete_write_and_close<U: Unit, T: Stage>(
+    layer: &mut Layer<U>,
+    stage: &mut T,
+    t: Track,
+    bytes: &[u8],
+) -> Result<(), LayerFault>
+    requires whole { layer.old.broken ≡ false }
+    requires track { t.0 < track_count layer.old.tables.layout.geo }
+    requires long { length bytes.now ≤ 65535 }
+    requires tied { TiedIn layer.old (seen T.Shows stage.old) }
+    ensures stores { OnOk result (StoresTied U.null_bytes (written U.value t.0 bytes.now) layer.old layer.new (seen T.Shows stage.old) (seen T.Shows stage.new)) }
+    ensures others { OnlyIn layer.old.slot (seen T.Shows stage.old) (seen T.Shows stage.new) }
+{
+    if let Err(fault) = layer.complete(stage) {
+        return Err(fault);
+    }
+    write_and_close(layer, stage, t, bytes)
 }

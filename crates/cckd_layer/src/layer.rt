@@ -67,6 +67,13 @@ impl<U> Layer<U> {
         self.tables.cached(group)
     }
 
+    /// Whether the file was changed since it was mounted or closed.
+    pub fn marked(&self) -> bool
+        ensures { result ≡ self.now.marked }
+    {
+        self.marked
+    }
+
     /// Whether a write, a cut or a sync failed. Nothing else may be called then.
     pub fn broken(&self) -> bool
         ensures { result ≡ self.now.broken }

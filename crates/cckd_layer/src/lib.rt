@@ -8,6 +8,9 @@ mod chaining;
 mod claiming;
 mod closing;
 mod committing;
+mod completing;
+#[cfg(test)]
+mod completing_tests;
 mod counting;
 mod hardening;
 mod held;
@@ -33,6 +36,7 @@ pub use cckd_space::Space;
 pub use cckd_tables::{Device, StagedEntry, StagedWord};
 pub use chaining::put_chain;
 pub use closing::close_image;
+pub use completing::layers_tied;
 pub use held::Held;
 pub use laws::{
     closes_stand, commits_stand, marks_stand, puts_stand, releases_stand, stages_stand,

@@ -1,6 +1,7 @@
 //! The mounting of a layer: from the file of a slot to what the layer keeps of it.
 ghost use Rattle.std.specs.Prelude.{◌≡◌, ◌+◌, ◌≤◌, [], length, min, replicate, None, IfOk, OnOk, IfErr};
-ghost use Rattle.cckd_shelf.specs.Seen.{seen, IsLength, HasBytes};
+ghost use Rattle.cckd_shelf.specs.Seen.{seen, Tells, IsLength, HasBytes};
+ghost use Rattle.cckd_shelf.specs.World.{IsSure};
 ghost use Rattle.cckd_base.specs.Geometry.{area_of, IsLayout};
 ghost use Rattle.cckd_base.specs.Image.{IsSnug};
 ghost use Rattle.cckd_base.specs.Header.{headers_of, header_fault, layout_of};
@@ -13,6 +14,7 @@ ghost use Rattle.cckd_tables.specs.Tables.{HasWords};
 ghost use Rattle.cckd_layer.specs.Stands.{Stands, nothing_staged};
 ghost use Rattle.cckd_layer.specs.Reads.{OfFile};
 ghost use Rattle.cckd_layer.specs.Mounted.{HasHeaders, HasSpaces, IsFileCause, IsLookCause, IsHeaderRefusal, IsSurveyCause, IsLoadCause, IsOpenCause, IsFresh, IsOf, OnlyLooks, OnlySyncs, CountsOpen, CanRead, kept_view, reserve};
+ghost use Rattle.cckd_layer.specs.Loose.{Tied};
 
 use crate::layer::Layer;
 use cckd_base::{Extent, FORMAT_LIMIT, Layout, OpenFault, ScanFault};
@@ -262,6 +264,9 @@ impl<U> Layer<U> {
         ensures stands { OfFile slot (λ file. IfOk result (λ layer. IsSnug layer.tables.layout file
             → Stands (kept_view layer) slot (seen T.Shows stage.new).world)) (seen T.Shows stage.old) }
         ensures can_read { IfOk result (λ layer. CanRead layer (seen T.Shows stage.new)) }
+
+        // In any case it is tied to its file.
+        ensures tied { Tells (seen T.Shows stage.old) → IsSure (seen T.Shows stage.old).world → IfOk result (λ layer. Tied layer (seen T.Shows stage.new).world) }
 
         // Why there is no layer, and what was done.
         ensures cause { IfErr result (IsOpenCause roles slot (seen T.Shows stage.old)) }

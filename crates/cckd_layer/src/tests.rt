@@ -1,6 +1,8 @@
 //! Mounting, reading and closing small images: a 2311 has 2,000 tracks in eight groups, and its header area ends at 1,056.
 ghost use Rattle.std.specs.Prelude.{◌≡◌, ◌≤◌, false, length, vec_len, IfOk};
 ghost use Rattle.cckd_shelf.specs.Seen.{seen};
+ghost use Rattle.cckd_shelf.specs.World.{IsSure};
+ghost use Rattle.cckd_memory.specs.Memory.{seen_of};
 ghost use Rattle.cckd_layer.specs.Mounted.{CanRead};
 
 use crate::{Device, Held, Layer, PutFault, close_image, open_header, put_bytes};
@@ -17,7 +19,7 @@ use std::alloc::{AllocError, Global};
 use std::test::Fail;
 
 /// Bytes at a place of a file.
-type Patch<'a> = (usize, &'a [u8]);
+pub(crate) type Patch<'a> = (usize, &'a [u8]);
 
 /// The headers of a 2311 as it is made; its eight level-one words are 0.
 const RAW_2311: [Patch<'static>; 3] = [
@@ -45,7 +47,7 @@ const SHADOW: [Patch<'static>; 2] = [
 ];
 
 /// The bytes of track 0, and those of a null track 1.
-const STORED: [u8; 45] =
+pub(crate) const STORED: [u8; 45] =
     *b"\0\0\0\0\0\0\0\0\0\0\0\0\x08\0\0\0\0\0\0\0\0\0\0\0\0\x01\0\0\x08\xaa\xaa\xaa\xaa\xaa\xaa\xaa\xaa\xff\xff\xff\xff\xff\xff\xff\xff";
 
 const NULL_1: [u8; 37] =
@@ -61,7 +63,7 @@ fn patch(file: &mut [u8], patches: &[Patch]) {
 }
 
 /// A 2311 whose track 0 was written, with more bytes put into it.
-fn written(alloc: Global, len: usize, more: &[Patch]) -> Result<Vec<u8>, Fail> {
+pub(crate) fn written(alloc: Global, len: usize, more: &[Patch]) -> Result<Vec<u8>, Fail> {
     let mut file = vec![in alloc; 0; len]?;
     patch(&mut file, &RAW_2311);
     patch(&mut file, &WRITTEN);
@@ -70,7 +72,13 @@ fn written(alloc: Global, len: usize, more: &[Patch]) -> Result<Vec<u8>, Fail> {
 }
 
 /// A stage with these bytes in slot 0, where the calls of these numbers fail: the first binds the slot.
-fn stage_of(alloc: Global, bytes: &[u8], failing: &[u64]) -> Result<(MemoryStage, Slot), Fail> {
+pub(crate) fn stage_of(
+    alloc: Global,
+    bytes: &[u8],
+    failing: &[u64],
+) -> Result<(MemoryStage, Slot), Fail>
+    ensures { IfOk result (λ given. IsSure (seen_of given.0).world) }
+{
     let mut files = Vec::new(alloc);
     files.push(FileIn {
         name: Bytes::of(alloc, b"v")?,
@@ -83,14 +91,14 @@ fn stage_of(alloc: Global, bytes: &[u8], failing: &[u64]) -> Result<(MemoryStage
 }
 
 /// A buffer of so many zeros.
-fn zeros(alloc: Global, len: usize) -> Result<Vec<u8>, AllocError>
+pub(crate) fn zeros(alloc: Global, len: usize) -> Result<Vec<u8>, AllocError>
     ensures { IfOk result (λ buffer. vec_len buffer ≡ len) }
 {
     vec![in alloc; 0; len]
 }
 
 /// A read of a track that there is.
-fn read_of<T: Stage>(
+pub(crate) fn read_of<T: Stage>(
     layer: &mut Layer<Ckd>,
     stage: &mut T,
     number: u32,

@@ -1,7 +1,6 @@
-use Rattle.std.proofs.Common.{◌∙◌, ap, sym, subst}
 use Rattle.cckd_shelf.specs.Seen.{seen}
 use Rattle.cckd_layer.specs.Callers.{written}
-use Rattle.cckd_layer.proofs.TogetherLemmas.{HasWritten, write_stops, wrote_once, act_behind, others_behind, stored_kept, holds_written, closes_result}
+use Rattle.cckd_layer.proofs.TogetherLemmas.{write_stops, wrote_once, act_behind, others_behind, stored_kept, holds_written, closes_result}
 use Rattle.cckd_layer.proofs.ThenLemmas.{ok_then}
 use Rattle.cckd_layer.proofs.callers.write_and_close.Goals as goal
 
