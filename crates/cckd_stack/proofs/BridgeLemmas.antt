@@ -18,6 +18,7 @@ use Rattle.cckd_stack.specs.Layers.{Layer, layer_count}
 use Rattle.cckd_stack.specs.Answers.{Pair}
 use Rattle.cckd_stack.specs.Stops.{IsAmong, TrackLies}
 use Rattle.cckd_stack.specs.Opened.{HoldsLayer, StandIn, Opens, held_tracks}
+use Rattle.cckd_stack.proofs.CoveredLemmas.{sound_is_covered}
 use Rattle.cckd_stack.specs.Tops.{HoldsLies, laters_of}
 use Rattle.cckd_stack.specs.Stacked.{StackState, IsStack, AreLayersFrom, map_of, maps_of, map_at, stack_to, stack_by, stack_of}
 use Rattle.cckd_stack.specs.Mounting.{IsMounted, AreFreshFrom, AreOfFrom, roles_in, identifiers_in}
@@ -63,7 +64,7 @@ pub keeps_holds : (l : Layout) (g : Geometry) (identifier : List ℕ) (hard : La
     → ((t : ℕ) → track_count g ≤ t → hard t ≡ None) → Keeps null_track l hard (laters_of ps) file → HoldsLies identifier g hard ps file
 keeps_holds l g identifier hard ps file named shape past keeps = record {
   layer = held_tracks l file;
-  holds = record { layout = l; sound = whole_sound l identifier file named keeps.whole; geometry = shape; held = refl };
+  holds = record { layout = l; sound = whole_sound l identifier file named keeps.whole; geometry = shape; covered = sound_is_covered (identifier ∷ []) l file (whole_sound l identifier file named keeps.whole); held = refl };
   lies = λ t. ⊎_elim
       (λ (low : t < track_count l.geo).
       subst (TrackLies t ps (hard t)) (sym (held_low l file t low)) (track_within ps t (hard t) (held_in null_track l file t) (keeps.lies.each t low)))
@@ -107,6 +108,7 @@ holds_fresh limit slot g file s fresh of shape = record {
   layout = s.tables.layout;
   sound = subst (λ (ids : List (List ℕ)). IsSound ids s.tables.layout file) (only_one slot) of.sound;
   geometry = shape;
+  covered = sound_is_covered (identifiers_in slot) s.tables.layout file of.sound;
   held = fresh_map s file fresh.stages;
 }
 

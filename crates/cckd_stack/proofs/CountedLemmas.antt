@@ -1,5 +1,5 @@
 -- The tracks of the layers, counted one layer after another.
-use Rattle.std.proofs.Common.{◌≡◌, ℕ, zero, suc, ◌+◌, ◌-◌, ◌<◌, ◌≤◌, Bool, true, false, List, [], ◌∷◌, ◌++◌, length, filter, replicate, get_or, set, Err, refl, sym, ◌∙◌, ap, subst, arith}
+use Rattle.std.proofs.Common.{◌≡◌, ℕ, zero, suc, ◌+◌, ◌-◌, ◌<◌, ◌≤◌, Bool, true, false, List, [], ◌∷◌, ◌++◌, length, filter, drop, replicate, get_or, set, Err, refl, sym, ◌∙◌, ap, subst, arith}
 use Rattle.std.specs.Prelude.{is_some, if◌then◌else◌}
 use Rattle.std.specs.List.{range_with_len}
 use Rattle.std.proofs.lemmas.List.{length-append}
@@ -18,7 +18,7 @@ use Rattle.cckd_layer.specs.Reads.{CountsReads, tracks_in as tracks_counted}
 use Rattle.cckd_tables.specs.Looking.{with_cached}
 use Rattle.cckd_stack.specs.Layers.{Layer, tracks_in, track_counts, layer_count}
 use Rattle.cckd_stack.specs.Answers.{counts_shown}
-use Rattle.cckd_stack.specs.Stacked.{map_of, maps_of, map_at, stack_to, stack_by, stack_of, IsLayerIn, AreLayersFrom, AreWhole, CanReadAll, OnlyCaches, OnlyReads, CountsKind, kind_told, Shows}
+use Rattle.cckd_stack.specs.Stacked.{map_of, maps_of, map_at, stack_to, stack_by, stack_of, IsLayerIn, AreLayersFrom, AreWhole, CanReadAll, OnlyCaches, OnlyReads, CountsKind, kind_told, Shows, FitsShown}
 use Rattle.cckd_stack.proofs.LayerListLemmas.{all_at, all_set, layer_at, map_here, maps_length, caches_here, caches_length, caches_layers, caches_whole, caches_maps, reads_stay}
 use Rattle.cckd_stack.proofs.DownLemmas.{map_low}
 use Rattle.cckd_stack.proofs.BridgeLemmas.{count_to}
@@ -81,12 +81,20 @@ counts_all g maps some =
 
 -- ---- some layers were counted
 
+-- behind a number that was set the rest is as it was
+rest_behind : (xs : List ℕ) (n x k : ℕ) → drop n xs ≡ replicate (suc k) 0 → drop (suc n) (set xs n x) ≡ replicate k 0
+rest_behind [] zero x k e = absurd (cc e)
+rest_behind [] (suc n) x k e = absurd (cc e)
+rest_behind (y ∷ ys) zero x k e = cc e
+rest_behind (y ∷ ys) (suc n) x k e = rest_behind ys n x k e
+
 -- The layers below a number were counted. Only cached tables have changed, and nothing failed.
 pub record HasCounted (null : NullBytes) (g : Geometry) (start now : List LayerState) (a b : Seen) (counts : List ℕ) (number : ℕ) : Type 0 where
   pub cached : OnlyCaches start now
   pub can_read : CanReadAll now b
   pub kept : Stays a b
   pub faults : b.faults ≡ a.faults
+  pub rest : drop number counts ≡ replicate (9 - number) 0
   pub counted : Tells a → IsSure a.world → counts ≡ counts_to (track_count g) (maps_of null start (file_of a.world)) number ++ replicate (9 - number) 0
 
 pub none_counted : (null : NullBytes) (g : Geometry) (start : List LayerState) (a : Seen) → CanReadAll start a → HasCounted null g start start a a (replicate 9 0) 0
@@ -95,6 +103,7 @@ none_counted null g start a can = record {
   can_read = can;
   kept = λ told. refl;
   faults = refl;
+  rest = refl;
   counted = λ told sure. refl;
 }
 
@@ -128,6 +137,13 @@ module _ (null : NullBytes) (g : Geometry) (start now : List LayerState) (a b : 
         can_read = counted_reads;
         kept = λ told. kept (tells told) ∙ was.kept told;
         faults = faults ∙ was.faults;
+        rest =
+            let tail : 9 - n ≡ suc (8 - n) = omega (arith, low, few) in
+            let then_tail : 8 - n ≡ 9 - (n + 1) = omega arith in
+            let more : suc n ≡ n + 1 = omega arith in
+            ap (λ (k : ℕ). drop k (set counts n found)) (sym more)
+            ∙ rest_behind counts n found (8 - n) (was.rest ∙ ap (λ (k : ℕ). replicate k 0) tail)
+            ∙ ap (λ (k : ℕ). replicate k 0) then_tail;
         counted = λ told sure.
             let same = was.kept told in
             let files = file_of a.world in
@@ -152,6 +168,12 @@ module _ (null : NullBytes) (g : Geometry) (start now : List LayerState) (a b : 
             ∙ ap (λ (k : ℕ). (front ++ tracks_in (track_count g) (map_at maps n) ∷ []) ++ replicate k 0) then_tail
             ∙ ap (λ (k : ℕ). counts_to (track_count g) maps k ++ replicate (9 - (n + 1)) 0) (sym more);
       }
+
+pub all_fit : (null : NullBytes) (g : Geometry) (start now : List LayerState) (a b : Seen) (counts : List ℕ) (n total : ℕ) → n ≡ length start → total ≡ length start → length start ≤ 9
+    → HasCounted null g start now a b counts n → FitsShown (total, counts)
+all_fit null g start now a b counts n total e f few was =
+    let same : n ≡ total = omega (arith, e, f) in
+    record { few = omega (arith, f, few); rest = subst (λ (k : ℕ). drop k counts ≡ replicate (9 - k) 0) same was.rest }
 
 -- all were
 pub all_counted : (null : NullBytes) (g : Geometry) (start now : List LayerState) (a b : Seen) (counts : List ℕ) (n total : ℕ) → n ≡ length start → total ≡ length start → 1 ≤ length start

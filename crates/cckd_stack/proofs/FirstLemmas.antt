@@ -17,12 +17,12 @@ use Rattle.cckd_layer.specs.Mounted.{IsLookCause, SaysGeometry}
 use Rattle.cckd_stack.specs.Stacked.{OfFiles}
 use Rattle.cckd_stack.specs.Mounting.{IsRow, HasRow, IsRowCause, IsFirstCase, IsRefused, IsMountCause, IsLayersCause, shape_of}
 
--- ---- a file with the headers of a base is there
+-- ---- a file with the headers of an image is there
 
-first_present : (file : List ℕ) → 1 ≤ length file → identifier (headers_of file) ≡ base_identifier → is_present file ≡ true
-first_present [] long named = absurd (omega (arith, long))
-first_present (b ∷ rest) long named =
-    let first : b ≡ 67 = ap (λ (xs : List ℕ). get_or xs 0 0) named in
+first_present : (wanted file : List ℕ) → get_or wanted 0 0 ≡ 67 → 1 ≤ length file → identifier (headers_of file) ≡ wanted → is_present file ≡ true
+first_present wanted [] letter long named = absurd (omega (arith, long))
+first_present wanted (b ∷ rest) letter long named =
+    let first : b ≡ 67 = ap (λ (xs : List ℕ). get_or xs 0 0) named ∙ letter in
     let some : (length (67 ∷ rest) == 0) ≡ false = ne_eqb (length (67 ∷ rest)) 0 (λ p. absurd (omega (arith, p))) in
     let front : list_all (λ x. x == 0) (take 512 (67 ∷ rest)) ≡ false = refl in
     subst (λ (x : ℕ). is_present (x ∷ rest) ≡ true) (sym first)
@@ -36,14 +36,14 @@ only_named id wanted e =
     (λ (none : false ≡ true). absurd (false≢true none))
     (or_cases (bytes_eq id wanted) false e)
 
-headed_present : (file : List ℕ) → header_fault (base_identifier ∷ []) (headers_of file) (length file) ≡ None → is_present file ≡ true
-headed_present file e =
-    let sound = faultless (base_identifier ∷ []) (headers_of file) (length file) e in
-    first_present file (omega (arith, sound.area)) (only_named (identifier (headers_of file)) base_identifier sound.named)
+pub headed_present : (wanted file : List ℕ) → get_or wanted 0 0 ≡ 67 → header_fault (wanted ∷ []) (headers_of file) (length file) ≡ None → is_present file ≡ true
+headed_present wanted file letter e =
+    let sound = faultless (wanted ∷ []) (headers_of file) (length file) e in
+    first_present wanted file letter (omega (arith, sound.area)) (only_named (identifier (headers_of file)) wanted sound.named)
 
 -- so the first slots are there
 pub row_present : (files : ℕ → List ℕ) (count : ℕ) (geo : Geometry) → HasRow files count → SaysGeometry Base geo (files 0) → IsRow files (max count 1)
-row_present files zero geo row says = absurd (false≢true (sym row ∙ headed_present (files 0) says.sound))
+row_present files zero geo row says = absurd (false≢true (sym row ∙ headed_present base_identifier (files 0) refl says.sound))
 row_present files (suc n) geo row says = let e : max (suc n) 1 ≡ suc n = omega arith in subst (IsRow files) (sym e) row
 
 -- ---- refusals

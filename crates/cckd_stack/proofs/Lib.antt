@@ -6,6 +6,7 @@ pub mod DownLemmas
 pub mod RowLemmas
 pub mod MountedLemmas
 pub mod FirstLemmas
+pub mod CoveredLemmas
 pub mod BridgeLemmas
 pub mod LastLemmas
 pub mod CalledLemmas
@@ -15,3 +16,4 @@ pub mod CloseLemmas
 pub mod TiedLemmas
 pub mod CountedLemmas
 pub mod CheckLemmas
+pub mod OpenedLemmas

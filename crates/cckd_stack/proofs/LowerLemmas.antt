@@ -25,6 +25,7 @@ use Rattle.cckd_stack.specs.Layers.{Layer, Stack, base, shadow, layer_count, bel
 use Rattle.cckd_stack.specs.Stops.{Lies}
 use Rattle.cckd_stack.specs.Moments.{EachOpens, Hardening}
 use Rattle.cckd_stack.specs.Opened.{HoldsLayer, StandIn, OpensTo, held_tracks}
+use Rattle.cckd_stack.proofs.CoveredLemmas.{sound_is_covered}
 use Rattle.cckd_stack.specs.Tops.{top_slot}
 use Rattle.cckd_stack.specs.Stacked.{IsLayerIn, AreLayersFrom, map_of, maps_of, map_at, stack_to, stack_by, stack_of}
 use Rattle.cckd_stack.specs.Writes.{AgreeAll, KeepsStack, HasHardening}
@@ -181,7 +182,7 @@ module _ (null : NullBytes) (g : Geometry) (layers : List LayerState) (n : ℕ) 
     holds_then : (file : List ℕ) → Keeps null l m [] file → HoldsLayer (identifier_in n) g file m
     holds_then file keeps =
         let k : Keeps null_track l m [] file = subst (λ (f : NullBytes). Keeps f l m [] file) has.null_is keeps in
-        record { layout = l; sound = whole_sound l (identifier_in n) file named k.whole; geometry = place.shape; held = same_held file k.lies }
+        record { layout = l; sound = whole_sound l (identifier_in n) file named k.whole; geometry = place.shape; covered = sound_is_covered (identifier_in n ∷ []) l file (whole_sound l (identifier_in n) file named k.whole); held = same_held file k.lies }
 
     -- whatever a stop leaves then, where the other slots' outcomes were some before
     opens_then : (es : List Event) → EachOutcome x.slot (Keeps null l m []) es → OthersStill x.slot old.world.events es → EachOpens g (Lies was.hard was.later) es

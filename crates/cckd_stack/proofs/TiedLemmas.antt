@@ -1,11 +1,12 @@
 -- Layers that agree with their files: once they are mounted, and whatever is put.
-use Rattle.std.proofs.Common.{◌≡◌, ⊎_elim, ℕ, zero, suc, ◌+◌, ◌-◌, ◌<◌, ◌≤◌, List, [], ◌∷◌, length, refl, sym, ◌∙◌, ap, subst, arith}
-use Rattle.std.specs.Prelude.{IsTrue}
+use Rattle.std.proofs.Common.{◌≡◌, ⊎_elim, ℕ, zero, suc, ◌+◌, ◌-◌, ◌<◌, ◌≤◌, true, List, [], ◌∷◌, ◌++◌, length, map, refl, sym, ◌∙◌, ap, subst, arith}
+use Rattle.std.specs.Prelude.{IsTrue, T}
 use Rattle.std.proofs.Math.Path.{fun_ext}
 use Rattle.std.proofs.lemmas.Bool.{cases_lt}
 use Rattle.cckd_base.specs.Track.{null_track}
-use Rattle.cckd_shelf.specs.Events.{Event, is_sure, file_now}
-use Rattle.cckd_shelf.specs.Seen.{Seen, Tells}
+use Rattle.cckd_shelf.specs.Events.{Event, Put, is_sure, file_now}
+use Rattle.cckd_shelf.specs.Seen.{Seen, Tells, Stays}
+use Rattle.cckd_shelf.specs.Frame.{puts, PutsSome}
 use Rattle.cckd_shelf.specs.World.{World, IsSure, file_of, after_sync, after_put}
 use Rattle.cckd_shelf.specs.Outcomes.{EachOutcome}
 use Rattle.cckd_shelf.proofs.OutcomeLemmas.{sync_step, sync_leaves_now}
@@ -13,16 +14,19 @@ use Rattle.cckd_tables.specs.Tables.{AreOf}
 use Rattle.cckd_layer.specs.Sits.{IsMarked, Sits}
 use Rattle.cckd_layer.specs.Current.{Current}
 use Rattle.cckd_layer.specs.Mounted.{LayerState, IsFresh, IsOf, kept_view}
-use Rattle.cckd_layer.specs.Stands.{Stands}
-use Rattle.cckd_layer.specs.Writes.{Agrees}
+use Rattle.cckd_layer.specs.Stands.{Stands, nothing_staged}
+use Rattle.cckd_layer.specs.Writes.{Agrees, claimed_view}
+use Rattle.cckd_layer.specs.Held.{NullBytes}
+use Rattle.cckd_layer.specs.Marks.{FitsLayout}
 use Rattle.cckd_layer.proofs.CallerLemmas.{mounted_agrees, agrees_reads}
 use Rattle.cckd_stack.specs.Layers.{layer_count}
 use Rattle.cckd_stack.specs.Opened.{Opens}
-use Rattle.cckd_stack.specs.Stacked.{StackState, IsStack, CanReadAll, maps_of, stack_of}
+use Rattle.cckd_stack.specs.Stacked.{StackState, IsStack, CanReadAll, OnlyCaches, uncached, maps_of, stack_by, stack_of}
 use Rattle.cckd_stack.specs.Mounting.{roles_in, IsMounted, AreFreshFrom, AreOfFrom, StandFrom, after_syncs}
-use Rattle.cckd_stack.specs.Writes.{AgreeAll, HasHardening, AreSnugFrom, AreAbsentAbove, all_mounted}
+use Rattle.cckd_stack.specs.Writes.{AgreeAll, AreTied, KeepsStack, IsUnchanged, AreUnchanged, IsHardenedLast, HasHardening, AreSnugFrom, AreAbsentAbove, all_mounted}
+use Rattle.cckd_stack.specs.Called.{CanCall, AgreesAfter, only_events}
 use Rattle.cckd_stack.proofs.HistoryLemmas.{lies_same}
-use Rattle.cckd_stack.proofs.LayerListLemmas.{all_between, maps_length}
+use Rattle.cckd_stack.proofs.LayerListLemmas.{all_between, maps_length, caches_maps}
 use Rattle.cckd_stack.proofs.TopLemmas.{stand_agree}
 use Rattle.cckd_stack.proofs.BridgeLemmas.{mounted_opens, count_to}
 use Rattle.cckd_stack.proofs.MountedLemmas.{syncs_files, syncs_sure, stands_still}
@@ -62,6 +66,81 @@ agrees_put s bytes w a = record {
 
 pub agree_put : (layers : List LayerState) (bytes : List ℕ) (w : World) → AgreeAll layers w → AgreeAll layers (after_put bytes w)
 agree_put layers bytes w agree = all_between (λ (s : LayerState). Agrees s w) (λ (s : LayerState). Agrees s (after_put bytes w)) layers (λ s a. agrees_put s bytes w a) agree
+
+-- so it is where nothing else happens than that text is put
+pub agree_puts : (layers : List LayerState) (pieces : List (List ℕ)) (v w : World) → w.events ≡ puts pieces ++ v.events → AgreeAll layers v → AgreeAll layers w
+agree_puts layers [] v w e agree = agree_by layers v w (sym e) agree
+agree_puts layers (piece ∷ earlier) v w e agree =
+    let mid : World = record v { events = puts earlier ++ v.events } in
+    agree_by layers (after_put piece mid) w (sym e) (agree_put layers piece mid (agree_puts layers earlier v mid refl agree))
+
+pub can_call_puts : (s : StackState) (text : List ℕ) (now next : Seen) → next.tells ≡ now.tells → PutsSome text now next → CanCall s now → CanCall s next
+can_call_puts s text now next same put can = record {
+  whole = can.whole;
+  tied = λ told.
+      let before : Tells now = subst T same told in
+      let p = (put before).put in
+      agree_puts s.layers p.pieces now.world next.world p.events (can.tied before);
+}
+
+pub agrees_after_put : (s : StackState) (bytes : List ℕ) (events : List Event) → AgreesAfter s events → AgreesAfter s (Put bytes ∷ events)
+agrees_after_put s bytes events agree = agree_by s.layers (after_put bytes (only_events events)) (only_events (Put bytes ∷ events)) refl (agree_put s.layers bytes (only_events events) agree)
+
+-- ---- only cached tables change
+
+agrees_uncached : (x y : LayerState) (w : World) → uncached y ≡ uncached x → AreOf y.tables (file_of w y.slot) → Agrees x w → Agrees y w
+agrees_uncached x y w e are a = record {
+  stands = subst (λ (s : LayerState). Stands (claimed_view [] s) s.slot w) (sym e) a.stands;
+  are = are;
+  fits = subst (λ (s : LayerState). FitsLayout s.tables.layout s.header.cckd) (sym e) a.fits;
+  empty = λ h. subst (λ (s : LayerState). s.tables.stages ≡ nothing_staged) (sym e) (a.empty (subst (λ (s : LayerState). s.hardened ≡ true) e h));
+  alone = λ h. subst (λ (s : LayerState). EachOutcome s.slot (λ f. f ≡ file_of w s.slot) w.events) (sym e) (a.alone (subst (λ (s : LayerState). s.hardened ≡ true) e h));
+}
+
+module _ (old new : Seen) (same : new.world ≡ old.world) (told : Tells new) where
+  caches_agree : (layers next : List LayerState) → OnlyCaches layers next → CanReadAll next new → AgreeAll layers old.world → AgreeAll next new.world
+  caches_agree [] [] e can agree = tt
+  caches_agree [] (y ∷ ys) e can agree = absurd (cc e)
+  caches_agree (x ∷ xs) [] e can agree = absurd (cc e)
+  caches_agree (x ∷ xs) (y ∷ ys) e can agree =
+      let here : uncached y ≡ uncached x = cc e in
+      let rest : map uncached ys ≡ map uncached xs = cc e in
+      let sure : IsSure new.world = subst IsSure (sym same) agree.0.stands.sure in (
+        agrees_uncached x y new.world here (can.0 told sure).are (subst (Agrees x) (sym same) agree.0),
+        caches_agree xs ys rest can.1 agree.1,
+      )
+
+pub caches_keep : (null : NullBytes) (layers next : List LayerState) (old new : Seen) → OnlyCaches layers next → (Tells old → Tells new) → Stays old new → CanReadAll next new
+    → KeepsStack null layers next old new
+caches_keep null layers next old new e tells stays can = λ told agree.
+    let same = stays told in
+    record {
+      agree = caches_agree old new same (tells told) layers next e can agree;
+      are = ap (λ (w : World). stack_of null next (file_of w)) same ∙ ap stack_by (caches_maps null (file_of old.world) layers next e);
+    }
+
+pub caches_unchanged : (layers next : List LayerState) → OnlyCaches layers next → AreUnchanged layers → AreUnchanged next
+caches_unchanged [] [] e are = tt
+caches_unchanged [] (y ∷ ys) e are = absurd (cc e)
+caches_unchanged (x ∷ xs) [] e are = absurd (cc e)
+caches_unchanged (x ∷ xs) (y ∷ ys) e are =
+    let here : uncached y ≡ uncached x = cc e in
+    let rest : map uncached ys ≡ map uncached xs = cc e in
+    let was = are.0 in
+    (record { unmarked = ap (λ (s : LayerState). s.marked) here ∙ was.unmarked; hardened = ap (λ (s : LayerState). s.hardened) here ∙ was.hardened }, caches_unchanged xs ys rest are.1)
+
+-- ---- unchanged, and sure
+
+pub unchanged_last : (layers : List LayerState) → 1 ≤ length layers → AreUnchanged layers → IsHardenedLast layers
+unchanged_last [] some are = absurd (omega (arith, some))
+unchanged_last (x ∷ []) some are = record { lower = []; last = x; layers_are = refl; holds = are.0.hardened }
+unchanged_last (x ∷ y ∷ ys) some are =
+    let h : IsHardenedLast (y ∷ ys) = unchanged_last (y ∷ ys) (omega arith) are.1 in
+    record { lower = x ∷ h.lower; last = h.last; layers_are = ap (λ (ls : List LayerState). x ∷ ls) h.layers_are; holds = h.holds }
+
+pub tied_sure : (layers : List LayerState) (w : World) → 1 ≤ length layers → AreTied layers w → IsSure w
+tied_sure [] w some tied = absurd (omega (arith, some))
+tied_sure (x ∷ xs) w some tied = tied.0.stands.sure
 
 -- ---- once they are mounted
 

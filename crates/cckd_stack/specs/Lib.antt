@@ -2,6 +2,7 @@ pub mod Layers
 pub mod Records
 pub mod Faulty
 pub mod Answers
+pub mod Called
 pub mod History
 pub mod Stops
 pub mod Opened

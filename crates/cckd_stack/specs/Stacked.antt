@@ -1,5 +1,5 @@
 -- What callers see of a `Stack`, the stack of layers that it stands for, and what a read of it answers.
-use Rattle.std.specs.Prelude.{ℕ, zero, suc, ◌≡◌, ◌-◌, ◌≤◌, nat_lt, Bool, false, if◌then◌else◌, List, [], ◌∷◌, ◌++◌, length, map, take, drop, slice_index_or, Option, Some, None, Result, Ok, Err}
+use Rattle.std.specs.Prelude.{ℕ, zero, suc, ◌≡◌, ◌-◌, ◌≤◌, nat_lt, Bool, false, if◌then◌else◌, List, [], ◌∷◌, ◌++◌, length, map, take, drop, replicate, slice_index_or, Option, Some, None, Result, Ok, Err}
 use Rattle.std.specs.List.{AllByRecursion}
 use Rattle.cckd_shelf.specs.declared.fault.Faults.{Faults}
 use Rattle.cckd_shelf.specs.declared.fault.Kind.{Kind}
@@ -144,6 +144,11 @@ pub record OnlyReads {A : Type 0} (result : Result A StackFault) (old new : Seen
 pub record Shows (g : Geometry) (s : Stack) (shown : ℕ × List ℕ) : Type 0 where
   pub layers : shown.0 ≡ layer_count s
   pub counts : shown.1 ≡ counts_shown g s
+
+-- at most nine layers are shown, and 0 for each of nine that isn't there
+pub record FitsShown (shown : ℕ × List ℕ) : Type 0 where
+  pub few : shown.0 ≤ 9
+  pub rest : drop shown.0 shown.1 ≡ replicate (9 - shown.0) 0
 
 -- the fault that a check of a track answered
 abbrev pub told_fault : Result (Unit {0}) TrackFault → Option TrackFault

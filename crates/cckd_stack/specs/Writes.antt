@@ -36,6 +36,10 @@ use Rattle.cckd_stack.specs.Stacked.{stack_of}
 abbrev pub AgreeAll : List LayerState → World → Type 0
 AgreeAll layers w = AllByRecursion (λ layer. Agrees layer w) layers
 
+-- each layer is tied to the file of its slot, whose words and tables it has, so that it is told what its tracks are
+abbrev pub AreTied : List LayerState → World → Type 0
+AreTied layers w = AgreeAll layers w
+
 -- the stack that the layers are now
 abbrev pub stack_now : NullBytes → List LayerState → Seen → Stack
 stack_now null layers s = stack_of null layers (file_of s.world)

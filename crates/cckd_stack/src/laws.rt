@@ -13,7 +13,7 @@ ghost use Rattle.cckd_layer.specs.Held.{NullBytes, Keeps};
 ghost use Rattle.cckd_layer.specs.Mounted.{LayerState};
 ghost use Rattle.cckd_layer.specs.Writes.{Agrees, KeepsMap, StopsWithin, StopHolds, StoresIn, IsSameFile, IsOutside};
 ghost use Rattle.cckd_shelf.specs.Events.{Event};
-ghost use Rattle.cckd_shelf.specs.Seen.{Seen, Tells};
+ghost use Rattle.cckd_shelf.specs.Seen.{Seen, Tells, Stays};
 ghost use Rattle.cckd_shelf.specs.World.{World, IsSure, file_of, after_put};
 ghost use Rattle.cckd_shelf.specs.Outcomes.{AtEach};
 ghost use Rattle.cckd_shelf.specs.Frame.{OnlyIn};
@@ -23,15 +23,24 @@ ghost use Rattle.cckd_stack.specs.History.{refusal_breaks, reply_breaks};
 ghost use Rattle.cckd_stack.specs.Stops.{Lies, hardens};
 ghost use Rattle.cckd_stack.specs.Moments.{EachOpens, Hardening, KeepsStops};
 ghost use Rattle.cckd_stack.specs.Opened.{Opens};
+ghost use Rattle.cckd_stack.specs.Called.{AreSnug, StayAbsent};
 ghost use Rattle.cckd_stack.specs.Tops.{HoldsLies, laters_of};
-ghost use Rattle.cckd_stack.specs.Stacked.{StackState, IsStack, AreLayersFrom, CanReadAll, InLayer, stack_of};
+ghost use Rattle.cckd_stack.specs.Stacked.{StackState, IsStack, AreLayersFrom, CanReadAll, OnlyCaches, InLayer, stack_of};
 ghost use Rattle.cckd_stack.specs.Mounting.{IsMounted, AreFreshFrom, StandFrom, after_syncs};
-ghost use Rattle.cckd_stack.specs.Writes.{AgreeAll, AreSnugFrom, AreAbsentAbove, KeepsStack, StoresOnTop, HasHardening, StopsLie, StopsSettle, with_pair_on_top, all_mounted, all_hardened, with_written, reply_by, is_broken_by, OnlyHardens, asks};
+ghost use Rattle.cckd_stack.specs.Writes.{AgreeAll, AreTied, AreUnchanged, IsHardenedLast, AreSnugFrom, AreAbsentAbove, KeepsStack, StoresOnTop, HasHardening, StopsLie, StopsSettle, with_pair_on_top, all_mounted, all_hardened, with_written, reply_by, is_broken_by, OnlyHardens, asks};
 
 /// The files open to the stack that is mounted of them.
 pub fn mounted_opens()
     ensures { (limit : ℕ) (files : ℕ → List ℕ) (s : StackState) → IsStack s → AreFreshFrom limit 0 s.layers → IsMounted files s
         → Opens s.geometry files (stack_of null_track s.layers files) }
+{}
+
+/// The files open to one stack at most. Of the files that are mounted the snug ones are those of layers, and no stop leaves
+/// a file above the layers where none is.
+pub fn files_open_once()
+    ensures once { (g : Shape) (files : ℕ → List ℕ) (s other : Layered) → Opens g files s → Opens g files other → s ≡ other }
+    ensures snug { (files : ℕ → List ℕ) (s : StackState) → AreSnug files → IsMounted files s → AreSnugFrom files 0 s.layers }
+    ensures absent { (w : World) (s : StackState) → StayAbsent w → IsMounted (file_of w) s → AreAbsentAbove (length s.layers) (after_syncs (length s.layers) w) }
 {}
 
 /// What a stop may leave of the last layer's file is the same as the layer says it and as the stack does.
@@ -92,6 +101,16 @@ pub fn writes_are_answered()
         → reply_breaks c (reply_by said result) ≡ is_broken_by result }
     ensures layers { (g : Shape) (s : Layered) (r : Request) (p : Pair) (said : Said) → pair_by g s r ≡ Some p → is_refused said ≡ false
         → stack_after_call g s r said ≡ with_pair_on_top s p }
+{}
+
+/// Layers of which only cached tables changed agree with their files as before, and are the same stack; and where none was
+/// changed the last one is hardened.
+pub fn caches_keep_stacks()
+    ensures keeps { (null : NullBytes) (layers next : List LayerState) (old new : Seen) → OnlyCaches layers next → (Tells old → Tells new) → Stays old new → CanReadAll next new
+        → KeepsStack null layers next old new }
+    ensures unchanged { (layers next : List LayerState) → OnlyCaches layers next → AreUnchanged layers → AreUnchanged next }
+    ensures hardened { (layers : List LayerState) → 1 ≤ length layers → AreUnchanged layers → IsHardenedLast layers }
+    ensures sure { (layers : List LayerState) (w : World) → 1 ≤ length layers → AreTied layers w → IsSure w }
 {}
 
 /// Layers that agree with their files can be read. Only what has happened counts, and what is put doesn't. Layers that were

@@ -14,7 +14,7 @@ mod writing;
 
 pub use cckd_base::{Call, Geometry, Refusal, Reply, Turn};
 pub use laws::{
-    bridges, hardening_is_answered, hardenings_go_on, last_layers_count, mounted_layers_agree,
-    mounted_opens, stops_are_kept, writes_are_answered,
+    bridges, caches_keep_stacks, files_open_once, hardening_is_answered, hardenings_go_on,
+    last_layers_count, mounted_layers_agree, mounted_opens, stops_are_kept, writes_are_answered,
 };
 pub use stack::Stack;

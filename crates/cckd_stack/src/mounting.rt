@@ -9,7 +9,7 @@ ghost use Rattle.cckd_layer.specs.Stands.{Stands};
 ghost use Rattle.cckd_layer.specs.Reads.{OfFile};
 ghost use Rattle.cckd_layer.specs.Mounted.{IsFresh, IsOf, CanRead, CountsOpen, OnlyLooks, kept_view};
 ghost use Rattle.cckd_stack.specs.Mounting.{roles_in, IsSlotCause, SyncsOne, IsLayersCause, IsMountCause, IsMounted, IsRow, HasMounted, SyncsSome, AreFreshFrom, StandFrom, after_syncs, shape_of};
-ghost use Rattle.cckd_stack.specs.Stacked.{OfFiles, CanReadAll};
+ghost use Rattle.cckd_stack.specs.Stacked.{IsStack, OfFiles, CanReadAll};
 
 use crate::presence::{row, slot_of};
 use crate::stack::Stack;
@@ -162,6 +162,7 @@ impl<U> Stack<U> {
     pub fn mount<T: Stage>(alloc: Global, stage: &mut T, limit: u32) -> Result<Stack<U>, OpenFault>
         requires limit { limit ≤ FORMAT_LIMIT }
         ensures fresh { IfOk result (λ s. AreFreshFrom limit 0 s.layers) }
+        ensures stack { IfOk result IsStack }
         ensures whole { IfOk result (λ s. s.broken ≡ false) }
         ensures mounted { OfFiles (λ files. IfOk result (IsMounted files)) (seen T.Shows stage.old) }
 

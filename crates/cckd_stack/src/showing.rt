@@ -1,7 +1,7 @@
 //! How many tracks the layers have.
 ghost use Rattle.std.specs.Prelude.{◌≡◌, ◌≤◌, length, false, IfOk, IfErr};
 ghost use Rattle.cckd_shelf.specs.Seen.{seen};
-ghost use Rattle.cckd_stack.specs.Stacked.{stack_of, AreLayersFrom, AreWhole, OfFiles, CanReadAll, OnlyCaches, OnlyReads, Shows, with_layers};
+ghost use Rattle.cckd_stack.specs.Stacked.{stack_of, AreLayersFrom, AreWhole, OfFiles, CanReadAll, OnlyCaches, OnlyReads, Shows, FitsShown, with_layers};
 
 use crate::stack::Stack;
 use cckd_base::{Geometry, LayerFault, StackFault, Unit};
@@ -20,6 +20,7 @@ fn count_each<U: Unit, T: Stage>(
     requires whole { AreWhole layers.old }
     requires can_read { CanReadAll layers.old (seen T.Shows stage.old) }
     ensures shown { OfFiles (λ files. IfOk result (Shows geo.now (stack_of U.null_bytes layers.old files))) (seen T.Shows stage.old) }
+    ensures fits { IfOk result FitsShown }
     ensures refusal { IfErr result (λ why. why ≡ StackFault.Layer LayerFault.ReadFault) }
     ensures cached { OnlyCaches layers.old layers.new }
     ensures can_read { CanReadAll layers.new (seen T.Shows stage.new) }
@@ -43,6 +44,7 @@ impl<U: Unit> Stack<U> {
         requires whole { self.old.broken ≡ false }
         requires can_read { CanReadAll self.old.layers (seen T.Shows stage.old) }
         ensures shown { OfFiles (λ files. IfOk result (Shows self.old.geometry (stack_of U.null_bytes self.old.layers files))) (seen T.Shows stage.old) }
+        ensures fits { IfOk result FitsShown }
         ensures refusal { IfErr result (λ why. why ≡ StackFault.Layer LayerFault.ReadFault) }
 
         // What it does beside: of the layers only cached tables change, and everything can be read again.

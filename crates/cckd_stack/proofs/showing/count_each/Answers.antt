@@ -1,7 +1,7 @@
 use Rattle.std.proofs.Common.{get_or, ap, arith}
 use Rattle.cckd_shelf.specs.Seen.{seen}
 use Rattle.cckd_layer.specs.Mounted.{LayerState}
-use Rattle.cckd_stack.proofs.CountedLemmas.{counted_whole, counted_cached, counted_reads, one_counted, all_counted}
+use Rattle.cckd_stack.proofs.CountedLemmas.{counted_whole, counted_cached, counted_reads, one_counted, all_counted, all_fit}
 use Rattle.cckd_stack.proofs.showing.count_each.Goals as goal
 
 pub count-requires-clause-whole : goal.count-requires-clause-whole
@@ -36,3 +36,8 @@ pub returns-clause-shown : goal.returns-clause-shown
 returns-clause-shown g c = λ told sure.
     all_counted g.U.Unit.null_bytes c.args.geo.now c.args.layers.now c.loop-number.layers (seen g.T.Shows c.args.stage.now) (seen g.T.Shows c.loop-number.stage) c.loop-number.counts
     c.loop-number.number _ (omega (arith, c.loop-number-test.false)) (omega (arith, c.requires.few)) c.requires.some c.loop-number.invariant told sure
+
+pub returns-clause-fits : goal.returns-clause-fits
+returns-clause-fits g c =
+    all_fit g.U.Unit.null_bytes c.args.geo.now c.args.layers.now c.loop-number.layers (seen g.T.Shows c.args.stage.now) (seen g.T.Shows c.loop-number.stage) c.loop-number.counts
+    c.loop-number.number _ (omega (arith, c.loop-number-test.false)) (omega (arith, c.requires.few)) c.requires.few c.loop-number.invariant
