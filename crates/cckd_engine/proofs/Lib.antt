@@ -1,2 +1,5 @@
 pub mod ServeLemmas
 pub mod StepLemmas
+pub mod CallLemmas
+pub mod TrackCallLemmas
+pub mod MountLemmas

@@ -1,16 +1,15 @@
 -- A call that is served: its step, and then its line.
-use Rattle.std.proofs.Common.{◌≡◌, ◌≢◌, ℕ, zero, suc, ◌+◌, ◌≤◌, ◌==◌, Bool, true, false, cond, IsTrue, List, [], ◌∷◌, ◌++◌, length, take, drop, Option, refl, sym, ◌∙◌, ap, subst, arith, inl, inr, append-nil}
+use Rattle.std.proofs.Common.{◌≡◌, ◌≢◌, ℕ, zero, suc, ◌+◌, ◌≤◌, ◌==◌, Bool, true, false, cond, List, [], ◌∷◌, ◌++◌, length, take, drop, Option, refl, sym, ◌∙◌, ap, subst, arith, inl, inr, append-nil}
 use Rattle.std.specs.List.{AllByRecursion}
 use Rattle.std.proofs.lemmas.Bool.{cases_Bool, ne_eqb, cond-false}
 use Rattle.std.proofs.lemmas.List.{take-append-drop}
 use Rattle.cckd_base.specs.declared.geometry.Geometry.{Geometry}
-use Rattle.cckd_shelf.specs.Events.{Event, Put, file_now, is_sure, output_of}
+use Rattle.cckd_shelf.specs.Events.{Event, Put, file_now, output_of}
 use Rattle.cckd_shelf.specs.World.{World}
-use Rattle.cckd_shelf.specs.Seen.{Seen, Tells}
 use Rattle.cckd_shelf.specs.Outcomes.{AtEach}
-use Rattle.cckd_shelf.specs.Frame.{puts, joined, OnlyPuts, PutsFront, PutsSome}
+use Rattle.cckd_shelf.specs.Frame.{puts, joined, OnlyPuts, PutsFront}
 use Rattle.cckd_shelf.proofs.MomentLemmas.{at_end, joins, weaker}
-use Rattle.cckd_shelf.proofs.PutLemmas.{silently, output_puts, sure_at_puts, image_at_puts, at_puts, puts_output}
+use Rattle.cckd_shelf.proofs.PutLemmas.{silently, output_puts, image_at_puts, at_puts, puts_output}
 use Rattle.cckd_script.specs.Text.{IsLine}
 use Rattle.cckd_stack.specs.Layers.{Stack}
 use Rattle.cckd_stack.specs.Answers.{Request, Answer}
@@ -19,7 +18,7 @@ use Rattle.cckd_stack.specs.Stops.{Survives, SurvivesWithin}
 use Rattle.cckd_stack.specs.Moments.{EachOpens}
 use Rattle.cckd_stack.proofs.HistoryLemmas.{survives_within}
 use Rattle.cckd_engine.specs.declared.tally.Tally.{Tally}
-use Rattle.cckd_engine.specs.Engine.{Stands, Runs, KeepsHistory, entry_of}
+use Rattle.cckd_engine.specs.Engine.{Stands, TellsStops, KeepsHistory, entry_of}
 use Rattle.cckd_engine.specs.Lines.{Line, of_call, of_text, StopAfter, history_onto, HasFront, feeds, lines_since, LinesAt, KeepsLine}
 
 -- ---- line feeds
@@ -66,21 +65,17 @@ stack_at_puts : (stack : List Event → Stack) → ((bytes : List ℕ) (es : Lis
 stack_at_puts stack step [] es = refl
 stack_at_puts stack step (piece ∷ earlier) es = step piece (puts earlier ++ es) ∙ stack_at_puts stack step earlier es
 
-tied_at_puts : (tied : List Event → Type 0) → ((bytes : List ℕ) (es : List Event) → tied es → tied (Put bytes ∷ es))
-    → (pieces : List (List ℕ)) (es : List Event) → tied es → tied (puts pieces ++ es)
-tied_at_puts tied step [] es h = h
-tied_at_puts tied step (piece ∷ earlier) es h = step piece (puts earlier ++ es) (tied_at_puts tied step earlier es h)
+agrees_at_puts : (agrees : List Event → Type 0) → ((bytes : List ℕ) (es : List Event) → agrees es → agrees (Put bytes ∷ es))
+    → (pieces : List (List ℕ)) (es : List Event) → agrees es → agrees (puts pieces ++ es)
+agrees_at_puts agrees step [] es h = h
+agrees_at_puts agrees step (piece ∷ earlier) es h = step piece (puts earlier ++ es) (agrees_at_puts agrees step earlier es h)
 
--- an engine still runs once text was put
-pub runs_at_puts : (tied : List Event → Type 0) (broken : Option ℕ) (text : List ℕ) (old new : Seen)
-    → ((bytes : List ℕ) (es : List Event) → tied es → tied (Put bytes ∷ es))
-    → (Tells new → Tells old) → PutsSome text old new → Runs tied broken old → Runs tied broken new
-runs_at_puts tied broken text old new step tells put runs none told =
-    let was = runs none (tells told) in
-    let p = (put (tells told)).put in (
-      subst (λ (es : List Event). IsTrue (is_sure es)) (sym p.events) (subst IsTrue (sym (sure_at_puts p.pieces old.world.events)) was.0),
-      subst tied (sym p.events) (tied_at_puts tied step p.pieces old.world.events was.1),
-    )
+-- what stops leave is told of an engine as before
+pub tells_at_puts : (agrees : List Event → Type 0) (broken : Option ℕ) (text : List ℕ) (old new : World)
+    → ((bytes : List ℕ) (es : List Event) → agrees es → agrees (Put bytes ∷ es))
+    → PutsFront text old new → TellsStops agrees broken old.events → TellsStops agrees broken new.events
+tells_at_puts agrees broken text old new step put tells none =
+    subst agrees (sym put.put.events) (agrees_at_puts agrees step put.put.pieces old.events (tells none))
 
 -- the output ends with a front of the text
 pub front_put : (text before : List ℕ) (mid new : World) → output_of mid.events ≡ before → PutsFront text mid new → HasFront before text (output_of new.events)

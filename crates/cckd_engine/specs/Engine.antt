@@ -1,5 +1,5 @@
 -- What an engine keeps, and the history of calls that it stands for.
-use Rattle.std.specs.Prelude.{◌≡◌, ℕ, ◌+◌, ◌-◌, ◌^◌, min, List, [], ◌∷◌, length, Option, None}
+use Rattle.std.specs.Prelude.{◌≡◌, ℕ, ◌+◌, ◌-◌, ◌^◌, min, false, List, [], ◌∷◌, length, Option, None}
 use Rattle.cckd_base.specs.declared.geometry.Geometry.{Geometry}
 use Rattle.cckd_base.specs.declared.reply.Reply.{Reply}
 use Rattle.cckd_base.specs.declared.reply.Reply.TheVariants.{Refused}
@@ -13,7 +13,6 @@ use Rattle.cckd_stack.specs.Answers.{Request, Answer}
 use Rattle.cckd_stack.specs.History.{Entry, History, IsLegal, broken_at, stack_after}
 use Rattle.cckd_stack.specs.Stops.{Survives, SurvivesWithin}
 use Rattle.cckd_stack.specs.Moments.{EachOpens}
-use Rattle.cckd_engine.specs.Calls.{IsReady}
 use Rattle.cckd_engine.specs.declared.tally.Tally.{Tally}
 use Rattle.cckd_engine.specs.declared.engine.Engine.{Engine}
 use Rattle.cckd_engine.specs.declared.disk.Disk.{Ghosts as Making}
@@ -60,6 +59,13 @@ standing shows makes engine = record {
   tally = engine.tally;
 }
 
+-- it made no call yet
+pub record IsNew {T D : Type 0} (engine : Engine T D) : Type 0 where
+  pub calls : engine.calls ≡ 0
+  pub broken : engine.broken ≡ None
+  pub tally : engine.tally ≡ no_tally
+  pub mute : engine.mute ≡ false
+
 -- only the stage is another
 pub record IsWithStage {T D : Type 0} (new old : Engine T D) : Type 0 where
   pub disk : new.disk ≡ old.disk
@@ -78,8 +84,12 @@ pub record Stands (s0 : Stack) (h : History) (s : Standing) : Type 0 where
   pub tally : s.tally ≡ tally_of h
 
 -- an engine that isn't broken can make calls
-abbrev pub Runs : (List Event → Type 0) → Option ℕ → Seen → Type 0
-Runs tied broken s = broken ≡ None → IsReady tied s
+abbrev pub Runs : (Seen → Type 0) → Option ℕ → Seen → Type 0
+Runs tied broken s = broken ≡ None → tied s
+
+-- what stops leave is told, of an engine that isn't broken
+abbrev pub TellsStops : (List Event → Type 0) → Option ℕ → List Event → Type 0
+TellsStops agrees broken events = broken ≡ None → agrees events
 
 -- At each operation of a call whatever a stop leaves is what the history and the call may leave, and after it what the
 -- history with the call may leave.

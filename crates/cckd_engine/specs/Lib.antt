@@ -1,3 +1,5 @@
 pub mod Calls
 pub mod Engine
 pub mod Lines
+pub mod Performs
+pub mod Mounting

@@ -2,13 +2,14 @@
 ghost use Rattle.std.specs.Prelude.{◌≡◌, ◌∷◌, ℕ, List, length, false};
 ghost use Rattle.cckd_base.specs.declared.geometry.Geometry.{Geometry as Shape};
 ghost use Rattle.cckd_shelf.specs.Events.{Event, Put};
-ghost use Rattle.cckd_shelf.specs.Seen.{seen, Tells};
+ghost use Rattle.cckd_shelf.specs.Seen.{Seen, seen, Tells, Stays};
+ghost use Rattle.cckd_shelf.specs.Frame.{PutsSome};
 ghost use Rattle.cckd_script.specs.Text.{FitsCall};
 ghost use Rattle.cckd_stack.specs.Layers.{Stack};
 ghost use Rattle.cckd_stack.specs.Answers.{MayAnswer, stack_after_call};
 ghost use Rattle.cckd_stack.specs.History.{reply_breaks};
 ghost use Rattle.cckd_stack.specs.Moments.{Hardening, IsHardened, KeepsStops};
-ghost use Rattle.cckd_engine.specs.Calls.{IsReady, CanAsk, KeepsRun, asks, answer_in, CountsReply};
+ghost use Rattle.cckd_engine.specs.Calls.{CanAsk, KeepsRun, asks, answer_in, CountsReply, writes};
 
 use cckd_base::{Call, Reply};
 use cckd_shelf::Stage;
@@ -21,8 +22,14 @@ pub trait Disk {
     /// The stack that it stands for, where these events have happened.
     ghost stack: { Self → List Event → Stack };
 
-    /// What ties it to the files of its slots.
-    ghost tied: { Self → List Event → Type 0 };
+    /// That it can make calls: no operation failed, and it is tied to the files of its slots, as far as that is told.
+    ghost tied: { Self → Seen → Type 0 };
+
+    /// That each file is snug and agrees with it, so that it is told what stops leave.
+    ghost agrees: { Self → List Event → Type 0 };
+
+    /// That nothing was written to it since it was mounted or closed.
+    ghost unchanged: { Self → Type 0 };
 
     /// Makes a call. Bytes that it gives are `input`, and those that it is answered go to the front of `out`.
     fn perform<T: Stage>(
@@ -32,7 +39,7 @@ pub trait Disk {
         input: &[u8],
         out: &mut [u8],
     ) -> Reply
-        requires ready { IsReady (tied self.old) (seen T.Shows stage.old) }
+        requires ready { tied self.old (seen T.Shows stage.old) }
         requires asks { CanAsk call (length input.now) (length out.old) }
         ensures answers { Tells (seen T.Shows stage.old) → MayAnswer (geometry self.old)
             (stack self.old (seen T.Shows stage.old).world.events) (asks call input.now) (answer_in result out.new) }
@@ -43,15 +50,20 @@ pub trait Disk {
         ensures stack { Tells (seen T.Shows stage.old) → reply_breaks call result ≡ false
             → stack self.new (seen T.Shows stage.new).world.events
             ≡ stack_after_call (geometry self.old) (stack self.old (seen T.Shows stage.old).world.events) (asks call input.now) result }
-        ensures ready { reply_breaks call result ≡ false → IsReady (tied self.new) (seen T.Shows stage.new) }
+        ensures ready { reply_breaks call result ≡ false → tied self.new (seen T.Shows stage.new) }
         ensures geometry { geometry self.new ≡ geometry self.old }
 
-        // At each operation of the call, for all that was hardened and written since.
-        ensures stops { (was : Hardening) → Tells (seen T.Shows stage.old)
+        // At each operation of the call, for all that was hardened and written since, where the files agree with it.
+        ensures agrees { reply_breaks call result ≡ false → Tells (seen T.Shows stage.old)
+            → agrees self.old (seen T.Shows stage.old).world.events → agrees self.new (seen T.Shows stage.new).world.events }
+        ensures stops { (was : Hardening) → Tells (seen T.Shows stage.old) → agrees self.old (seen T.Shows stage.old).world.events
             → was.stack ≡ stack self.old (seen T.Shows stage.old).world.events
             → IsHardened (geometry self.old) was (seen T.Shows stage.old).world.events
             → KeepsStops (geometry self.old) was (asks call input.now) result
             (seen T.Shows stage.old).world.events (seen T.Shows stage.new).world.events }
+
+        // A call that writes nothing to a disk that wasn't changed does nothing to the files, and leaves it unchanged.
+        ensures quiet { unchanged self.old → writes call ≡ false → unchanged self.new × Stays (seen T.Shows stage.old) (seen T.Shows stage.new) }
 
         // A fault that was met is told, and no other count rose; nothing is put and nothing is taken.
         ensures counts { CountsReply result (seen T.Shows stage.old).faults (seen T.Shows stage.new).faults }
@@ -61,6 +73,9 @@ pub trait Disk {
     ghost stack_at_put: { (disk : Self) (bytes : List ℕ) (events : List Event)
         → stack disk (Put bytes ∷ events) ≡ stack disk events };
 
-    ghost tied_at_put: { (disk : Self) (bytes : List ℕ) (events : List Event)
-        → tied disk events → tied disk (Put bytes ∷ events) };
+    ghost tied_at_puts: { (disk : Self) (text : List ℕ) (s next : Seen) → next.tells ≡ s.tells → PutsSome text s next
+        → tied disk s → tied disk next };
+
+    ghost agrees_at_put: { (disk : Self) (bytes : List ℕ) (events : List Event)
+        → agrees disk events → agrees disk (Put bytes ∷ events) };
 }

@@ -11,14 +11,16 @@ ghost use Rattle.cckd_stack.specs.Layers.{Stack};
 ghost use Rattle.cckd_stack.specs.History.{History, reply_breaks};
 ghost use Rattle.cckd_stack.specs.Stops.{Survives};
 ghost use Rattle.cckd_stack.specs.Moments.{EachOpens};
-ghost use Rattle.cckd_engine.specs.Calls.{CanAsk, CountsReply, KeepsRun, asks, answer_in};
-ghost use Rattle.cckd_engine.specs.Engine.{entry_of, no_tally, standing, IsWithStage, Stands, Runs, KeepsHistory};
+ghost use Rattle.cckd_engine.specs.Calls.{CanAsk, CountsReply, KeepsRun, asks, answer_in, writes};
+ghost use Rattle.cckd_engine.specs.Engine.{entry_of, no_tally, standing, IsWithStage, Stands, Runs, TellsStops, KeepsHistory};
+ghost use Rattle.cckd_lines.specs.Lines.{IsPlace, IsAtEnd, IsNext, LiesIn, IsShort, Advances, BreaksOff, OnlyTakes, held, text_of, allowance};
 ghost use Rattle.cckd_engine.specs.Lines.{KeepsLine, of_call, of_text, CountsServed, CountsCut, HasFront};
 
 use crate::disk::Disk;
 use crate::tally::Tally;
 use cckd_base::{Call, Refusal, Reply};
-use cckd_script::{LINE_ROOM, print_reply};
+use cckd_lines::{Next, Place, next_line};
+use cckd_script::{LINE_LIMIT, LINE_ROOM, print_reply};
 use cckd_shelf::{Failed, Stage, put_all};
 
 /// A stage, the stack of layers on its files, and what was made of it so far.
@@ -91,11 +93,15 @@ impl<T: Stage, D: Disk> Engine<T, D> {
             (standing T.Shows D.Disk self.new) }
         ensures stops { (session : Option ℕ) (s0 : Stack) (h : History) → Tells (seen T.Shows self.old.stage)
             → Stands s0 h (standing T.Shows D.Disk self.old)
+            → TellsStops (D.agrees self.old.disk) self.old.broken (seen T.Shows self.old.stage).world.events
             → EachOpens (D.geometry self.old.disk) (Survives (D.geometry self.old.disk) s0 h) (seen T.Shows self.old.stage).world.events
             → KeepsHistory (D.geometry self.old.disk) s0 h
             (entry_of session (asks call input.now) (answer_in result out.new) (seen T.Shows self.new.stage).world.events)
             (seen T.Shows self.old.stage).world.events (seen T.Shows self.new.stage).world.events }
         ensures runs { Runs (D.tied self.new.disk) self.new.broken (seen T.Shows self.new.stage) }
+        ensures agrees { Tells (seen T.Shows self.old.stage)
+            → TellsStops (D.agrees self.old.disk) self.old.broken (seen T.Shows self.old.stage).world.events
+            → TellsStops (D.agrees self.new.disk) self.new.broken (seen T.Shows self.new.stage).world.events }
         ensures geometry { D.geometry self.new.disk ≡ D.geometry self.old.disk }
         ensures calls { self.new.calls ≡ self.old.calls + 1 }
         ensures mute { self.new.mute ≡ self.old.mute }
@@ -103,6 +109,7 @@ impl<T: Stage, D: Disk> Engine<T, D> {
         ensures out { length out.new ≡ length out.old }
         ensures counts { CountsReply result (seen T.Shows self.old.stage).faults (seen T.Shows self.new.stage).faults }
         ensures run { KeepsRun (seen T.Shows self.old.stage) (seen T.Shows self.new.stage) }
+        ensures quiet { D.unchanged self.old.disk → writes call ≡ false → D.unchanged self.new.disk × Stays (seen T.Shows self.old.stage) (seen T.Shows self.new.stage) }
         ensures refused { IfSome self.old.broken (λ at. result ≡ Reply.Refused (Refusal.Broken at)) }
         ensures idle { IsSome self.old.broken → seen T.Shows self.new.stage ≡ seen T.Shows self.old.stage }
     {
@@ -139,12 +146,16 @@ impl<T: Stage, D: Disk> Engine<T, D> {
             (standing T.Shows D.Disk self.new) }
         ensures stops { (s0 : Stack) (h : History) → Tells (seen T.Shows self.old.stage)
             → Stands s0 h (standing T.Shows D.Disk self.old)
+            → TellsStops (D.agrees self.old.disk) self.old.broken (seen T.Shows self.old.stage).world.events
             → EachOpens (D.geometry self.old.disk) (Survives (D.geometry self.old.disk) s0 h) (seen T.Shows self.old.stage).world.events
             → KeepsLine (D.geometry self.old.disk) s0 h
             (of_call (entry_of who (asks call input.now) (answer_in result.reply out.new) (seen T.Shows self.new.stage).world.events))
             (output_of (seen T.Shows self.old.stage).world.events)
             (seen T.Shows self.old.stage).world.events (seen T.Shows self.new.stage).world.events }
         ensures runs { Runs (D.tied self.new.disk) self.new.broken (seen T.Shows self.new.stage) }
+        ensures agrees { Tells (seen T.Shows self.old.stage)
+            → TellsStops (D.agrees self.old.disk) self.old.broken (seen T.Shows self.old.stage).world.events
+            → TellsStops (D.agrees self.new.disk) self.new.broken (seen T.Shows self.new.stage).world.events }
         ensures geometry { D.geometry self.new.disk ≡ D.geometry self.old.disk }
         ensures calls { self.new.calls ≡ self.old.calls + 1 }
         ensures fits { FitsCall call (length input.now) result.reply }
@@ -163,6 +174,9 @@ impl<T: Stage, D: Disk> Engine<T, D> {
             → output_of (seen T.Shows self.new.stage).world.events ≡ output_of (seen T.Shows self.old.stage).world.events }
         ensures counts { CountsServed result.reply self.old.mute self.new.mute
             (seen T.Shows self.old.stage).faults (seen T.Shows self.new.stage).faults }
+        ensures quiet { D.unchanged self.old.disk → writes call ≡ false → D.unchanged self.new.disk
+            × PutsSome (reply_line call result.reply (answered_bytes result.reply out.new)) (seen T.Shows self.old.stage) (seen T.Shows self.new.stage) }
+        ensures script { Tells (seen T.Shows self.old.stage) → (seen T.Shows self.new.stage).world.script ≡ (seen T.Shows self.old.stage).world.script }
     {
         let reply = self.step(call, input, out);
         let given = input.len() as u32;
@@ -198,6 +212,9 @@ impl<T: Stage, D: Disk> Engine<T, D> {
             (seen T.Shows self.old.stage).world.events (seen T.Shows self.new.stage).world.events }
         ensures runs { Runs (D.tied self.old.disk) self.old.broken (seen T.Shows self.old.stage)
             → Runs (D.tied self.new.disk) self.new.broken (seen T.Shows self.new.stage) }
+        ensures agrees { Tells (seen T.Shows self.old.stage)
+            → TellsStops (D.agrees self.old.disk) self.old.broken (seen T.Shows self.old.stage).world.events
+            → TellsStops (D.agrees self.new.disk) self.new.broken (seen T.Shows self.new.stage).world.events }
     {
         put_all(&mut self.stage, text)
     }
@@ -214,6 +231,29 @@ impl<T: Stage, D: Disk> Engine<T, D> {
         ensures same { Tells (seen T.Shows self.old.stage) → (seen T.Shows self.new.stage).world.events ≡ (seen T.Shows self.old.stage).world.events }
     {
         self.stage.take(into)
+    }
+
+    /// What comes next in the script, from a place of the room on.
+    pub fn next_line(&mut self, room: &mut [u8], place: Place) -> Result<(Next, Place), Failed>
+        requires place { IsPlace room.old place }
+        requires room { LINE_LIMIT + 2 ≤ length room.old }
+        requires ended { Tells (seen T.Shows self.old.stage) → IsAtEnd place (seen T.Shows self.old.stage).world.script }
+        ensures place { IfOk result (λ found. IsPlace room.new found.1) }
+        ensures room { length room.new ≡ length room.old }
+        ensures ended { Tells (seen T.Shows self.old.stage) → IfOk result (λ found. IsAtEnd found.1 (seen T.Shows self.new.stage).world.script) }
+        ensures next { Tells (seen T.Shows self.old.stage) → IfOk result (λ found. IsNext (held room.old place (seen T.Shows self.old.stage).world.script)
+            (held room.new found.1 (seen T.Shows self.new.stage).world.script) found.0) }
+        ensures lies { IfOk result (λ found. LiesIn room.new found.0) }
+        ensures short { IfOk result (λ found. IsShort found.0) }
+        ensures advances { IfOk result (λ found. Advances (allowance place) (allowance found.1) found.0) }
+        ensures broken { Tells (seen T.Shows self.old.stage) → OnErr result
+            (BreaksOff (allowance place) (text_of (held room.old place (seen T.Shows self.old.stage).world.script)) (seen T.Shows self.new.stage).world.script) }
+        ensures going_on { OnErr result (place.ended ≡ false) }
+        ensures only { Tells (seen T.Shows self.old.stage) → OnlyTakes (seen T.Shows self.old.stage).world (seen T.Shows self.new.stage).world }
+        ensures fails { Fails Takes result (seen T.Shows self.old.stage) (seen T.Shows self.new.stage) }
+        ensures rest { IsWithStage self.new self.old }
+    {
+        next_line(&mut self.stage, room, place)
     }
 
     /// How many calls were made.

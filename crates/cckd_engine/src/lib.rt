@@ -3,6 +3,8 @@
 
 mod disk;
 mod engine;
+mod mounting;
+mod stack_disk;
 mod tally;
 
 pub use disk::Disk;

@@ -1,5 +1,6 @@
+use Rattle.std.proofs.Common.{refl}
 use Rattle.cckd_shelf.specs.Seen.{seen}
-use Rattle.cckd_engine.proofs.ServeLemmas.{stands_at_text, runs_at_puts, notes}
+use Rattle.cckd_engine.proofs.ServeLemmas.{stands_at_text, tells_at_puts, notes}
 use Rattle.cckd_engine.proofs.engine.Engine.print.Goals as goal
 
 pub returns-clause-stands : goal.returns-clause-stands
@@ -14,6 +15,11 @@ returns-clause-stops g c = λ s0 h told one left.
     (g.T.Shows.world c.put_all.new.stage) left (c.put_all.ensures.front told)
 
 pub returns-clause-runs : goal.returns-clause-runs
-returns-clause-runs g c = λ runs.
-    runs_at_puts (g.D.Disk.tied c.args.self.now.disk) c.args.self.now.broken c.args.text.now (seen g.T.Shows c.args.self.now.stage)
-    (seen g.T.Shows c.put_all.new.stage) (g.met.D.Disk.tied_at_put c.args.self.now.disk) (λ told. told) c.put_all.ensures.front runs
+returns-clause-runs g c = λ runs none.
+    g.met.D.Disk.tied_at_puts c.args.self.now.disk c.args.text.now (seen g.T.Shows c.args.self.now.stage) (seen g.T.Shows c.put_all.new.stage) refl
+    c.put_all.ensures.front (runs none)
+
+pub returns-clause-agrees : goal.returns-clause-agrees
+returns-clause-agrees g c = λ told tells.
+    tells_at_puts (g.D.Disk.agrees c.args.self.now.disk) c.args.self.now.broken c.args.text.now (g.T.Shows.world c.args.self.now.stage)
+    (g.T.Shows.world c.put_all.new.stage) (g.met.D.Disk.agrees_at_put c.args.self.now.disk) (c.put_all.ensures.front told) tells

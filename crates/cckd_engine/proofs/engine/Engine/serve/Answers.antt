@@ -1,8 +1,8 @@
-use Rattle.std.proofs.Common.{◌≡◌, Bool, true, false, not, refl, sym, ap}
+use Rattle.std.proofs.Common.{◌≡◌, Bool, true, false, not, refl, sym, ◌∙◌, ap}
 use Rattle.cckd_shelf.specs.Seen.{Seen, seen}
 use Rattle.cckd_script.specs.Text.{answered_bytes, reply_line}
 use Rattle.cckd_engine.specs.Calls.{asks, answer_in}
-use Rattle.cckd_engine.proofs.ServeLemmas.{stands_at_puts, serves_line, runs_at_puts, front_put, whole_put}
+use Rattle.cckd_engine.proofs.ServeLemmas.{stands_at_puts, serves_line, tells_at_puts, front_put, whole_put}
 use Rattle.cckd_engine.proofs.engine.Engine.serve.Goals as goal
 
 pub returns-clause-stands : goal.returns-clause-stands
@@ -15,20 +15,20 @@ returns-clause-stands g c = λ s0 h told stands.
     (c.step-reply.ensures.stands c.args.who s0 h told stands)
 
 pub returns-clause-stops : goal.returns-clause-stops
-returns-clause-stops g c = λ s0 h told stands left.
+returns-clause-stops g c = λ s0 h told stands tells left.
     serves_line c.args.who (asks c.args.call c.args.input.now) (answer_in c.step-reply.result c.step-reply.new.out) s0 h
     (reply_line c.args.call c.step-reply.result (answered_bytes c.step-reply.result c.step-reply.new.out))
     (g.T.Shows.world c.args.self.now.stage) (g.T.Shows.world c.step-reply.new.self.stage) (g.T.Shows.world c.put_line-self.new.stage)
     (c.put_line-self.ensures.front told) (g.D.Disk.geometry c.args.self.now.disk) c.step-reply.new.self.mute
-    (c.step-reply.ensures.stops c.args.who s0 h told stands left) (c.step-reply.ensures.run told).output c.put_line-self.ensures.one
+    (c.step-reply.ensures.stops c.args.who s0 h told stands tells left) (c.step-reply.ensures.run told).output c.put_line-self.ensures.one
     (λ cut. ap (λ (s : Seen). s.world) (c.put_line-self.ensures.still cut).1)
 
 pub returns-clause-runs : goal.returns-clause-runs
 returns-clause-runs g c =
-    runs_at_puts (g.D.Disk.tied c.step-reply.new.self.disk) c.step-reply.new.self.broken
+    λ none.
+    g.met.D.Disk.tied_at_puts c.step-reply.new.self.disk
     (reply_line c.args.call c.step-reply.result (answered_bytes c.step-reply.result c.step-reply.new.out))
-    (seen g.T.Shows c.step-reply.new.self.stage) (seen g.T.Shows c.put_line-self.new.stage)
-    (g.met.D.Disk.tied_at_put c.step-reply.new.self.disk) (λ told. told) c.put_line-self.ensures.front c.step-reply.ensures.runs
+    (seen g.T.Shows c.step-reply.new.self.stage) (seen g.T.Shows c.put_line-self.new.stage) refl c.put_line-self.ensures.front (c.step-reply.ensures.runs none)
 
 not_true : (b : Bool) → not b ≡ true → b ≡ false
 not_true true e = sym e
@@ -40,3 +40,13 @@ returns-clause-said g c = λ told printed.
 
 pub returns-clause-front : goal.returns-clause-front
 returns-clause-front g c = λ told. front_put _ _ _ _ (c.step-reply.ensures.run told).output (c.put_line-self.ensures.front told)
+
+pub returns-clause-agrees : goal.returns-clause-agrees
+returns-clause-agrees g c = λ told tells.
+    tells_at_puts (g.D.Disk.agrees c.step-reply.new.self.disk) c.step-reply.new.self.broken
+    (reply_line c.args.call c.step-reply.result (answered_bytes c.step-reply.result c.step-reply.new.out))
+    (g.T.Shows.world c.step-reply.new.self.stage) (g.T.Shows.world c.put_line-self.new.stage)
+    (g.met.D.Disk.agrees_at_put c.step-reply.new.self.disk) (c.put_line-self.ensures.front told) (c.step-reply.ensures.agrees told tells)
+
+pub returns-clause-script : goal.returns-clause-script
+returns-clause-script g c = λ told. (c.put_line-self.ensures.front told).put.script ∙ (c.step-reply.ensures.run told).script

@@ -4,7 +4,7 @@ use Rattle.cckd_engine.proofs.StepLemmas.{number_if, stands_next, keeps_next, ke
 use Rattle.cckd_engine.proofs.engine.Engine.step.Goals as goal
 
 pub returns-in-Some-clause-stops : goal.returns-in-Some-clause-stops
-returns-in-Some-clause-stops g c = λ session s0 h told stands left.
+returns-in-Some-clause-stops g c = λ session s0 h told stands tells left.
     keeps_still _ s0 h _ _ _ _ stands refl left c.in-Some.at c.in-Some.is refl
 
 pub returns-then-breaks-clause-stands : goal.returns-then-breaks-clause-stands
@@ -14,8 +14,9 @@ returns-then-breaks-clause-stands g c = λ session s0 h told stands.
     (c.perform-reply.ensures.stack told) (ap (λ (b : Bool). number_if b (c.args.self.now.calls + 1)) (sym breaks)) c.count.ensures
 
 pub returns-then-breaks-clause-stops : goal.returns-then-breaks-clause-stops
-returns-then-breaks-clause-stops g c = λ session s0 h told stands left.
-    keeps_next _ s0 h _ _ _ _ stands refl left c.in_default.is (λ was is hardened. c.perform-reply.ensures.stops was told is hardened)
+returns-then-breaks-clause-stops g c = λ session s0 h told stands tells left.
+    keeps_next _ s0 h _ _ _ _ stands refl left c.in_default.is
+    (λ was is hardened. c.perform-reply.ensures.stops was told (tells c.in_default.is) is hardened)
 
 pub returns-else-breaks-clause-stands : goal.returns-else-breaks-clause-stands
 returns-else-breaks-clause-stands g c = λ session s0 h told stands.
@@ -24,5 +25,6 @@ returns-else-breaks-clause-stands g c = λ session s0 h told stands.
     (c.perform-reply.ensures.stack told) (c.in_default.is ∙ ap (λ (b : Bool). number_if b (c.args.self.now.calls + 1)) (sym fine)) c.count.ensures
 
 pub returns-else-breaks-clause-stops : goal.returns-else-breaks-clause-stops
-returns-else-breaks-clause-stops g c = λ session s0 h told stands left.
-    keeps_next _ s0 h _ _ _ _ stands refl left c.in_default.is (λ was is hardened. c.perform-reply.ensures.stops was told is hardened)
+returns-else-breaks-clause-stops g c = λ session s0 h told stands tells left.
+    keeps_next _ s0 h _ _ _ _ stands refl left c.in_default.is
+    (λ was is hardened. c.perform-reply.ensures.stops was told (tells c.in_default.is) is hardened)

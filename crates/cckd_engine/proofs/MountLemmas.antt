@@ -1,0 +1,109 @@
+-- An engine that was just mounted.
+use Rattle.std.proofs.Common.{◌≡◌, ℕ, false, List, [], length, Option, None, refl, sym, ◌∙◌, ap, subst}
+use Rattle.std.proofs.Math.Path.{fun_ext}
+use Rattle.cckd_base.specs.declared.geometry.Geometry.{Geometry}
+use Rattle.cckd_base.specs.Track.{null_track}
+use Rattle.cckd_shelf.specs.Seen.{Seen, Tells, Makes}
+use Rattle.cckd_shelf.specs.World.{World, IsSure, file_of}
+use Rattle.cckd_stack.specs.Layers.{Stack}
+use Rattle.cckd_stack.specs.Opened.{Opens}
+use Rattle.cckd_stack.specs.Stops.{Lies, Survives}
+use Rattle.cckd_stack.specs.Moments.{EachOpens}
+use Rattle.cckd_stack.specs.Stacked.{StackState, IsStack, OfFiles, stack_of}
+use Rattle.cckd_stack.specs.Mounting.{IsMounted, AreFreshFrom, StandFrom, after_syncs}
+use Rattle.cckd_stack.specs.Writes.{AgreeAll, AreAbsentAbove, stack_now}
+use Rattle.cckd_stack.specs.Called.{AreSnug, StayAbsent, CanCall, AgreesAfter, stack_in}
+use Rattle.cckd_stack.proofs.BridgeLemmas.{mounted_opens}
+use Rattle.cckd_stack.proofs.MountedLemmas.{syncs_files}
+use Rattle.cckd_stack.proofs.TiedLemmas.{mounted_agree, mounted_hardening}
+use Rattle.cckd_stack.proofs.OpenedLemmas.{opens_once, mounted_snug, mounted_absent}
+use Rattle.cckd_engine.specs.declared.tally.Tally.{Tally}
+use Rattle.cckd_engine.specs.Engine.{Standing, Stands, no_tally}
+use Rattle.cckd_engine.specs.Mounting.{FindsSnug}
+use Rattle.cckd_engine.proofs.CallLemmas.{agrees_then}
+
+module _ (limit : ℕ) (s : StackState) (old new : Seen) (is : IsStack s) (fresh : AreFreshFrom limit 0 s.layers) (tells : Tells old → Tells new) (back : Tells new → Tells old)
+    (mounted : OfFiles (λ files. IsMounted files s) old) (stand : OfFiles (λ files. StandFrom files new.world 0 s.layers) old)
+    (synced : Makes (after_syncs (length s.layers)) old new)
+  where
+    -- the files open to it
+    now_opens : Tells old → IsSure old.world → Opens s.geometry (file_of old.world) (stack_in s new.world.events)
+    now_opens told sure =
+        let same : file_of new.world ≡ file_of old.world =
+        fun_ext (λ k. ap (λ (w : World). file_of w k) (synced told) ∙ syncs_files (length s.layers) old.world k) in
+        subst (λ (files : ℕ → List ℕ). Opens s.geometry (file_of old.world) (stack_of null_track s.layers files)) (sym same)
+        (mounted_opens limit (file_of old.world) s is fresh (mounted told sure))
+
+    pub mount_opens : OfFiles (λ files. (s0 : Stack) × Opens s.geometry files s0) old
+    mount_opens = λ told sure. (stack_in s new.world.events, now_opens told sure)
+
+    pub mount_stands : OfFiles (λ files. (s0 : Stack) → Opens s.geometry files s0
+        → Stands s0 [] (record { geometry = s.geometry; stack = stack_in s new.world.events; calls = 0; broken = None; tally = no_tally })) old
+    mount_stands = λ told sure s0 opens. record {
+      legal = tt;
+      last = λ none. opens_once s.geometry (file_of old.world) (stack_in s new.world.events) s0 (now_opens told sure) opens;
+      number = refl;
+      breaks = refl;
+      tally = refl;
+    }
+
+    agree_all : Tells old → IsSure old.world → AreSnug (file_of old.world) → AgreeAll s.layers new.world
+    agree_all told sure snug =
+        mounted_agree limit s old new is fresh (tells told) sure (mounted told sure) (mounted_snug (file_of old.world) s snug (mounted told sure)) (synced told) (stand told sure)
+
+    pub mount_runs : (Tells old → IsSure old.world) → s.broken ≡ false → FindsSnug old → CanCall s new
+    mount_runs sure whole snug = record { whole = whole; tied = λ told. agree_all (back told) (sure (back told)) (snug (back told)) }
+
+    pub mount_agrees : OfFiles (λ files. AreSnug files → AgreesAfter s new.world.events) old
+    mount_agrees = λ told sure snug. agrees_then s new.world (agree_all told sure snug)
+
+    pub mount_stops : OfFiles (λ files. AreSnug files → StayAbsent old.world → (s0 : Stack) → Opens s.geometry files s0 → EachOpens s.geometry (Survives s.geometry s0 []) new.world.events) old
+    mount_stops = λ told sure snug absent s0 opens.
+        let same : stack_in s new.world.events ≡ s0 = opens_once s.geometry (file_of old.world) (stack_in s new.world.events) s0 (now_opens told sure) opens in
+        let above : AreAbsentAbove (length s.layers) new.world = subst (AreAbsentAbove (length s.layers)) (sym (synced told)) (mounted_absent old.world s absent (mounted told sure)) in
+        let h =
+        mounted_hardening limit s old new is fresh (tells told) sure (mounted told sure) (mounted_snug (file_of old.world) s snug (mounted told sure)) (synced told) (stand told sure) above in
+        subst (λ (x : Stack). EachOpens s.geometry (Lies x []) new.world.events) same h.hardened.stops
+
+-- ---- all of it at once
+
+-- the files were mounted as this stack, and nothing was done but their syncs
+pub record IsJustMounted (limit : ℕ) (s : StackState) (old new : Seen) : Type 0 where
+  pub is : IsStack s
+  pub whole : s.broken ≡ false
+  pub fresh : AreFreshFrom limit 0 s.layers
+  pub tells : Tells old → Tells new
+  pub back : Tells new → Tells old
+  pub mounted : OfFiles (λ files. IsMounted files s) old
+  pub stand : OfFiles (λ files. StandFrom files new.world 0 s.layers) old
+  pub synced : Makes (after_syncs (length s.layers)) old new
+
+pub just_by : (limit : ℕ) (s next : StackState) (old mid new : Seen) → next ≡ s → new ≡ mid → IsJustMounted limit s old mid → IsJustMounted limit next old new
+just_by limit s next old mid new same still just =
+    subst (λ (x : StackState). IsJustMounted limit x old new) (sym same) (subst (IsJustMounted limit s old) (sym still) just)
+
+module _ (limit : ℕ) (s : StackState) (old new : Seen) (m : IsJustMounted limit s old new) where
+  pub just_opens : OfFiles (λ files. (s0 : Stack) × Opens s.geometry files s0) old
+  just_opens = mount_opens limit s old new m.is m.fresh m.tells m.back m.mounted m.stand m.synced
+
+  pub just_stands : OfFiles (λ files. (s0 : Stack) → Opens s.geometry files s0
+      → Stands s0 [] (record { geometry = s.geometry; stack = stack_in s new.world.events; calls = 0; broken = None; tally = no_tally })) old
+  just_stands = mount_stands limit s old new m.is m.fresh m.tells m.back m.mounted m.stand m.synced
+
+  pub just_runs : (Tells old → IsSure old.world) → FindsSnug old → CanCall s new
+  just_runs sure snug = mount_runs limit s old new m.is m.fresh m.tells m.back m.mounted m.stand m.synced sure m.whole snug
+
+  pub just_agrees : OfFiles (λ files. AreSnug files → AgreesAfter s new.world.events) old
+  just_agrees = mount_agrees limit s old new m.is m.fresh m.tells m.back m.mounted m.stand m.synced
+
+  pub just_stops : OfFiles (λ files. AreSnug files → StayAbsent old.world → (s0 : Stack) → Opens s.geometry files s0 → EachOpens s.geometry (Survives s.geometry s0 []) new.world.events) old
+  just_stops = mount_stops limit s old new m.is m.fresh m.tells m.back m.mounted m.stand m.synced
+
+  pub just_new : (calls : ℕ) (broken : Option ℕ) (tally : Tally) → calls ≡ 0 → broken ≡ None → tally ≡ no_tally
+      → OfFiles (λ files. (s0 : Stack) → Opens s.geometry files s0
+      → Stands s0 [] (record { geometry = s.geometry; stack = stack_in s new.world.events; calls = calls; broken = broken; tally = tally })) old
+  just_new calls broken tally none whole still = λ told sure s0 opens.
+      subst (λ (n : ℕ). Stands s0 [] (record { geometry = s.geometry; stack = stack_in s new.world.events; calls = n; broken = broken; tally = tally })) (sym none)
+      (subst (λ (b : Option ℕ). Stands s0 [] (record { geometry = s.geometry; stack = stack_in s new.world.events; calls = 0; broken = b; tally = tally })) (sym whole)
+      (subst (λ (t : Tally). Stands s0 [] (record { geometry = s.geometry; stack = stack_in s new.world.events; calls = 0; broken = None; tally = t })) (sym still)
+      (just_stands told sure s0 opens)))

@@ -1,0 +1,80 @@
+use Rattle.std.proofs.Common.{ap}
+use Rattle.cckd_shelf.specs.Seen.{seen}
+use Rattle.cckd_engine.proofs.MountLemmas.{just_by, just_opens, just_new, just_runs, just_agrees, just_stops}
+use Rattle.cckd_engine.proofs.mounting.Engine+T+Stack+Ckd.mount.Goals as goal
+
+pub returns-in-Ok-clause-opens : goal.returns-in-Ok-clause-opens
+returns-in-Ok-clause-opens g c =
+    just_opens c.args.limit c.new.result.disk (seen g.T.Shows c.args.stage) (seen g.T.Shows c.new.result.stage)
+    (just_by c.args.limit c.in-Ok.disk c.new.result.disk (seen g.T.Shows c.args.stage) (seen g.T.Shows c.mount.new.stage) (seen g.T.Shows c.new.result.stage)
+    c.new.ensures.disk (ap (seen g.T.Shows) c.new.ensures.stage) (record {
+      is = c.in-Ok.ensures.stack;
+      whole = c.in-Ok.ensures.whole;
+      fresh = c.in-Ok.ensures.fresh;
+      tells = λ told. told;
+      back = λ told. told;
+      mounted = c.in-Ok.ensures.mounted;
+      stand = c.in-Ok.ensures.stand;
+      synced = c.in-Ok.ensures.synced;
+    }))
+
+pub returns-in-Ok-clause-runs : goal.returns-in-Ok-clause-runs
+returns-in-Ok-clause-runs g c = λ snug none.
+    just_runs c.args.limit c.new.result.disk (seen g.T.Shows c.args.stage) (seen g.T.Shows c.new.result.stage)
+    (just_by c.args.limit c.in-Ok.disk c.new.result.disk (seen g.T.Shows c.args.stage) (seen g.T.Shows c.mount.new.stage) (seen g.T.Shows c.new.result.stage)
+    c.new.ensures.disk (ap (seen g.T.Shows) c.new.ensures.stage) (record {
+      is = c.in-Ok.ensures.stack;
+      whole = c.in-Ok.ensures.whole;
+      fresh = c.in-Ok.ensures.fresh;
+      tells = λ told. told;
+      back = λ told. told;
+      mounted = c.in-Ok.ensures.mounted;
+      stand = c.in-Ok.ensures.stand;
+      synced = c.in-Ok.ensures.synced;
+    })) c.requires.sure snug
+
+pub returns-in-Ok-clause-agrees : goal.returns-in-Ok-clause-agrees
+returns-in-Ok-clause-agrees g c = λ told sure snug none.
+    just_agrees c.args.limit c.new.result.disk (seen g.T.Shows c.args.stage) (seen g.T.Shows c.new.result.stage)
+    (just_by c.args.limit c.in-Ok.disk c.new.result.disk (seen g.T.Shows c.args.stage) (seen g.T.Shows c.mount.new.stage) (seen g.T.Shows c.new.result.stage)
+    c.new.ensures.disk (ap (seen g.T.Shows) c.new.ensures.stage) (record {
+      is = c.in-Ok.ensures.stack;
+      whole = c.in-Ok.ensures.whole;
+      fresh = c.in-Ok.ensures.fresh;
+      tells = λ told. told;
+      back = λ told. told;
+      mounted = c.in-Ok.ensures.mounted;
+      stand = c.in-Ok.ensures.stand;
+      synced = c.in-Ok.ensures.synced;
+    })) told sure snug
+
+pub returns-in-Ok-clause-stops : goal.returns-in-Ok-clause-stops
+returns-in-Ok-clause-stops g c =
+    just_stops c.args.limit c.new.result.disk (seen g.T.Shows c.args.stage) (seen g.T.Shows c.new.result.stage)
+    (just_by c.args.limit c.in-Ok.disk c.new.result.disk (seen g.T.Shows c.args.stage) (seen g.T.Shows c.mount.new.stage) (seen g.T.Shows c.new.result.stage)
+    c.new.ensures.disk (ap (seen g.T.Shows) c.new.ensures.stage) (record {
+      is = c.in-Ok.ensures.stack;
+      whole = c.in-Ok.ensures.whole;
+      fresh = c.in-Ok.ensures.fresh;
+      tells = λ told. told;
+      back = λ told. told;
+      mounted = c.in-Ok.ensures.mounted;
+      stand = c.in-Ok.ensures.stand;
+      synced = c.in-Ok.ensures.synced;
+    }))
+
+pub returns-in-Ok-clause-stands : goal.returns-in-Ok-clause-stands
+returns-in-Ok-clause-stands g c =
+    just_new c.args.limit c.new.result.disk (seen g.T.Shows c.args.stage) (seen g.T.Shows c.new.result.stage)
+    (just_by c.args.limit c.in-Ok.disk c.new.result.disk (seen g.T.Shows c.args.stage) (seen g.T.Shows c.mount.new.stage) (seen g.T.Shows c.new.result.stage)
+    c.new.ensures.disk (ap (seen g.T.Shows) c.new.ensures.stage) (record {
+      is = c.in-Ok.ensures.stack;
+      whole = c.in-Ok.ensures.whole;
+      fresh = c.in-Ok.ensures.fresh;
+      tells = λ told. told;
+      back = λ told. told;
+      mounted = c.in-Ok.ensures.mounted;
+      stand = c.in-Ok.ensures.stand;
+      synced = c.in-Ok.ensures.synced;
+    }))
+    c.new.result.calls c.new.result.broken c.new.result.tally c.new.ensures.calls c.new.ensures.broken c.new.ensures.tally
