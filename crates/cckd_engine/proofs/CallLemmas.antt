@@ -19,7 +19,7 @@ use Rattle.cckd_base.specs.declared.layer_fault.StackFault.TheVariants as stack_
 use Rattle.cckd_base.specs.Track.{null_track}
 use Rattle.cckd_shelf.specs.declared.fault.Faults.{Faults}
 use Rattle.cckd_shelf.specs.Events.{Event, output_of}
-use Rattle.cckd_shelf.specs.World.{World}
+use Rattle.cckd_shelf.specs.World.{World, IsSure}
 use Rattle.cckd_shelf.specs.Seen.{Seen, Tells, Stays}
 use Rattle.cckd_shelf.specs.Outcomes.{AtEach}
 use Rattle.cckd_shelf.proofs.MomentLemmas.{at_once, kept_at}
@@ -31,10 +31,10 @@ use Rattle.cckd_stack.specs.History.{refusal_breaks, reply_breaks}
 use Rattle.cckd_stack.specs.Stops.{Lies, hardens}
 use Rattle.cckd_stack.specs.Moments.{EachOpens, Hardening, IsHardened, KeepsStops}
 use Rattle.cckd_stack.specs.Stacked.{StackState, InLayer, CanReadAll, OnlyCaches, CountsFault, CountsKind, kind_told, with_layers}
-use Rattle.cckd_stack.specs.Writes.{AgreeAll, AreUnchanged, KeepsStack, HasHardening, StopsLie, StopsSettle, OnlyHardens, reply_by, refusal_by, is_broken_by, stack_now}
+use Rattle.cckd_stack.specs.Writes.{AgreeAll, AreUnchanged, KeepsEach, HasHardening, StopsLie, StopsSettle, OnlyHardens, reply_by, refusal_by, is_broken_by, stack_now}
 use Rattle.cckd_stack.specs.Called.{CanCall, AgreesAfter, stack_in, only_events}
 use Rattle.cckd_stack.proofs.CalledLemmas.{stops_unhardened, harden_answers, harden_stack, harden_stops, call_breaks}
-use Rattle.cckd_stack.proofs.TiedLemmas.{agree_by, caches_keep, caches_unchanged}
+use Rattle.cckd_stack.proofs.TiedLemmas.{agree_by, caches_keep, caches_unchanged, tied_sure}
 use Rattle.cckd_engine.specs.Calls.{CountsReply, CountsOne, RunStays, KeepsRun, asks, fault_told, writes}
 use Rattle.cckd_engine.specs.Performs.{Performs}
 
@@ -52,9 +52,10 @@ module _ (old : StackState) (now : Seen) (can : CanCall old now) where
   pub no_track : (r : Request) → no_such_track old.geometry (address_in r.asked) ≡ Some refusal.NoSuchTrack
       → Performs r (refused refusal.NoSuchTrack) old old now now
   no_track r none = record {
-    answers = λ told. refuses refusal.NoSuchTrack (no_track_first old.geometry (stack_in old now.world.events) r none) refl;
+    answers = λ told sure. refuses refusal.NoSuchTrack (no_track_first old.geometry (stack_in old now.world.events) r none) refl;
     fits = tt;
-    stack = λ told fine. refl;
+    stack = λ told sure fine. refl;
+    sure = λ told sure fine. sure;
     ready = λ fine. can;
     geometry = refl;
     agrees = λ fine told agree. agree;
@@ -113,11 +114,11 @@ on_ok A P Q (Err why) h f = tt
 module _ (old new : StackState) (before after : Seen) (can : CanCall old before) (tells : Tells before → Tells after) (back : Tells after → Tells before)
     (rest : new ≡ with_layers old new.layers) (caches : OnlyCaches old.layers new.layers) (can_read : CanReadAll new.layers after) (kept : Stays before after)
   where
-    reads_keep : KeepsStack null_track old.layers new.layers before after
+    reads_keep : KeepsEach null_track old.layers new.layers before after
     reads_keep = caches_keep null_track old.layers new.layers before after caches tells kept can_read
 
     pub reads_do : (r : Request) (said : Answer)
-        → (Tells before → MayAnswer old.geometry (stack_in old before.world.events) r said)
+        → (Tells before → IsSure before.world → MayAnswer old.geometry (stack_in old before.world.events) r said)
         → FitsCall r.asked (length r.given) said.reply
         → ((s : Stack) → stack_after_call old.geometry s r said.reply ≡ s)
         → hardens r.asked said.reply ≡ false
@@ -126,13 +127,14 @@ module _ (old new : StackState) (before after : Seen) (can : CanCall old before)
     reads_do r said answers fits same calm counts = record {
       answers = answers;
       fits = fits;
-      stack = λ told fine. (reads_keep told (can.tied told)).are ∙ sym (same (stack_in old before.world.events));
+      stack = λ told sure fine. (reads_keep.tied told (can.tied told sure)).are ∙ sym (same (stack_in old before.world.events));
+      sure = λ told sure fine. subst IsSure (sym (kept told)) sure;
       ready = λ fine. record {
         whole = ap (λ (s : StackState). s.broken) rest ∙ can.whole;
-        tied = λ told. (reads_keep (back told) (can.tied (back told))).agree;
+        tied = λ told sure. (reads_keep.tied (back told) (can.tied (back told) (subst IsSure (kept (back told)) sure))).agree;
       };
       geometry = ap (λ (s : StackState). s.geometry) rest;
-      agrees = λ fine told agree. agrees_then new after.world (reads_keep told (agrees_now old before.world agree)).agree;
+      agrees = λ fine told agree. agrees_then new after.world (reads_keep.agreed told (agrees_now old before.world agree)).agree;
       stops = λ was told agree is hardened.
           stops_unhardened old.geometry was r said.reply before.world.events after.world.events
           (kept_at (EachOpens old.geometry (Lies was.hard was.later)) before.world after.world (kept told) hardened.stops) calm;
@@ -161,10 +163,11 @@ has old before was told agree is hardened = record {
 module _ (old new : StackState) (before after : Seen) (can : CanCall old before) (back : Tells after → Tells before)
     (result : Result (Unit {0}) StackFault) (geometry : new.geometry ≡ old.geometry) (broken : new.broken ≡ is_broken_by result)
     (lies : StopsLie null_track old.geometry old.layers before after) (run : Tells before → RunStays before.world after.world)
+    (some : 1 ≤ length new.layers) (grown : Tells before → IsSure after.world → IsSure before.world)
   where
     pub harden_does : (c : Call) (given : List ℕ) (done : Reply) → OnlyHardens c done → refusal_breaks c refusal.ReadFault ≡ false → is_refused done ≡ false
         → FitsCall c (length given) done → fault_told done ≡ None
-        → (new.broken ≡ false → KeepsStack null_track old.layers new.layers before after)
+        → (new.broken ≡ false → KeepsEach null_track old.layers new.layers before after)
         → OnOk result (StopsSettle null_track old.geometry old.layers before after)
         → IfErr result (InLayer IsOutside) → CountsFault result before.faults after.faults
         → (AreUnchanged old.layers → AreUnchanged new.layers × Stays before after)
@@ -173,14 +176,18 @@ module _ (old new : StackState) (before after : Seen) (can : CanCall old before)
         let whole : reply_breaks c (reply_by done result) ≡ false → new.broken ≡ false =
         λ fine. broken ∙ sym (call_breaks (Unit {0}) c done result calm answered) ∙ fine in
         record {
-          answers = λ told. harden_answers (Unit {0}) old.geometry (stack_in old before.world.events) given c done result only refusal;
+          answers = λ told sure. harden_answers (Unit {0}) old.geometry (stack_in old before.world.events) given c done result only refusal;
           fits = done_fits (Unit {0}) IsOutside c (length given) done result fits refusal;
-          stack = λ told fine.
-              (map (whole fine) told (can.tied told)).are
+          stack = λ told sure fine.
+              ((map (whole fine)).tied told (can.tied told sure)).are
               ∙ sym (harden_stack (Unit {0}) old.geometry (stack_in old before.world.events) given c done result only);
-          ready = λ fine. record { whole = whole fine; tied = λ told. (map (whole fine) (back told) (can.tied (back told))).agree };
+          sure = λ told sure fine. tied_sure new.layers after.world some ((map (whole fine)).tied told (can.tied told sure)).agree;
+          ready = λ fine. record {
+            whole = whole fine;
+            tied = λ told sure. ((map (whole fine)).tied (back told) (can.tied (back told) (grown (back told) sure))).agree;
+          };
           geometry = geometry;
-          agrees = λ fine told agree. agrees_then new after.world (map (whole fine) told (agrees_now old before.world agree)).agree;
+          agrees = λ fine told agree. agrees_then new after.world ((map (whole fine)).agreed told (agrees_now old before.world agree)).agree;
           stops = λ was told agree is hardened.
               let h = has old before was told agree is hardened in
               harden_stops (Unit {0}) old.geometry was given c done result before.world.events after.world.events only (lies was h)

@@ -1,25 +1,27 @@
 -- An engine that was just mounted.
-use Rattle.std.proofs.Common.{◌≡◌, ℕ, false, List, [], length, Option, None, refl, sym, ◌∙◌, ap, subst}
+use Rattle.std.proofs.Common.{◌≡◌, ℕ, suc, ◌∷◌, false, true, List, [], length, Option, None, refl, sym, ◌∙◌, ap, subst}
 use Rattle.std.proofs.Math.Path.{fun_ext}
 use Rattle.cckd_base.specs.declared.geometry.Geometry.{Geometry}
 use Rattle.cckd_base.specs.Track.{null_track}
 use Rattle.cckd_shelf.specs.Seen.{Seen, Tells, Makes}
+use Rattle.cckd_shelf.specs.Events.{is_sure}
 use Rattle.cckd_shelf.specs.World.{World, IsSure, file_of}
+use Rattle.cckd_layer.specs.Mounted.{LayerState}
 use Rattle.cckd_stack.specs.Layers.{Stack}
 use Rattle.cckd_stack.specs.Opened.{Opens}
 use Rattle.cckd_stack.specs.Stops.{Lies, Survives}
 use Rattle.cckd_stack.specs.Moments.{EachOpens}
 use Rattle.cckd_stack.specs.Stacked.{StackState, IsStack, OfFiles, stack_of}
 use Rattle.cckd_stack.specs.Mounting.{IsMounted, AreFreshFrom, StandFrom, after_syncs}
-use Rattle.cckd_stack.specs.Writes.{AgreeAll, AreAbsentAbove, stack_now}
+use Rattle.cckd_stack.specs.Writes.{AgreeAll, AreTied, AreUnchanged, AreAbsentAbove}
 use Rattle.cckd_stack.specs.Called.{AreSnug, StayAbsent, CanCall, AgreesAfter, stack_in}
 use Rattle.cckd_stack.proofs.BridgeLemmas.{mounted_opens}
-use Rattle.cckd_stack.proofs.MountedLemmas.{syncs_files}
+use Rattle.cckd_stack.proofs.MountedLemmas.{syncs_files, syncs_sure}
+use Rattle.cckd_stack.proofs.SomeLemmas.{sure_unsynced}
 use Rattle.cckd_stack.proofs.TiedLemmas.{mounted_agree, mounted_hardening}
 use Rattle.cckd_stack.proofs.OpenedLemmas.{opens_once, mounted_snug, mounted_absent}
 use Rattle.cckd_engine.specs.declared.tally.Tally.{Tally}
 use Rattle.cckd_engine.specs.Engine.{Standing, Stands, no_tally}
-use Rattle.cckd_engine.specs.Mounting.{FindsSnug}
 use Rattle.cckd_engine.proofs.CallLemmas.{agrees_then}
 
 module _ (limit : ℕ) (s : StackState) (old new : Seen) (is : IsStack s) (fresh : AreFreshFrom limit 0 s.layers) (tells : Tells old → Tells new) (back : Tells new → Tells old)
@@ -38,10 +40,11 @@ module _ (limit : ℕ) (s : StackState) (old new : Seen) (is : IsStack s) (fresh
     mount_opens = λ told sure. (stack_in s new.world.events, now_opens told sure)
 
     pub mount_stands : OfFiles (λ files. (s0 : Stack) → Opens s.geometry files s0
-        → Stands s0 [] (record { geometry = s.geometry; stack = stack_in s new.world.events; calls = 0; broken = None; tally = no_tally })) old
+        → Stands s0 [] (record { geometry = s.geometry; stack = stack_in s new.world.events; sure = is_sure new.world.events; calls = 0; broken = None; tally = no_tally })) old
     mount_stands = λ told sure s0 opens. record {
       legal = tt;
       last = λ none. opens_once s.geometry (file_of old.world) (stack_in s new.world.events) s0 (now_opens told sure) opens;
+      sure = λ none. subst IsSure (sym (synced told)) (syncs_sure (length s.layers) old.world sure);
       number = refl;
       breaks = refl;
       tally = refl;
@@ -50,9 +53,6 @@ module _ (limit : ℕ) (s : StackState) (old new : Seen) (is : IsStack s) (fresh
     agree_all : Tells old → IsSure old.world → AreSnug (file_of old.world) → AgreeAll s.layers new.world
     agree_all told sure snug =
         mounted_agree limit s old new is fresh (tells told) sure (mounted told sure) (mounted_snug (file_of old.world) s snug (mounted told sure)) (synced told) (stand told sure)
-
-    pub mount_runs : (Tells old → IsSure old.world) → s.broken ≡ false → FindsSnug old → CanCall s new
-    mount_runs sure whole snug = record { whole = whole; tied = λ told. agree_all (back told) (sure (back told)) (snug (back told)) }
 
     pub mount_agrees : OfFiles (λ files. AreSnug files → AgreesAfter s new.world.events) old
     mount_agrees = λ told sure snug. agrees_then s new.world (agree_all told sure snug)
@@ -77,6 +77,7 @@ pub record IsJustMounted (limit : ℕ) (s : StackState) (old new : Seen) : Type 
   pub mounted : OfFiles (λ files. IsMounted files s) old
   pub stand : OfFiles (λ files. StandFrom files new.world 0 s.layers) old
   pub synced : Makes (after_syncs (length s.layers)) old new
+  pub tied : OfFiles (λ files. AreTied s.layers new.world) old
 
 pub just_by : (limit : ℕ) (s next : StackState) (old mid new : Seen) → next ≡ s → new ≡ mid → IsJustMounted limit s old mid → IsJustMounted limit next old new
 just_by limit s next old mid new same still just =
@@ -87,11 +88,15 @@ module _ (limit : ℕ) (s : StackState) (old new : Seen) (m : IsJustMounted limi
   just_opens = mount_opens limit s old new m.is m.fresh m.tells m.back m.mounted m.stand m.synced
 
   pub just_stands : OfFiles (λ files. (s0 : Stack) → Opens s.geometry files s0
-      → Stands s0 [] (record { geometry = s.geometry; stack = stack_in s new.world.events; calls = 0; broken = None; tally = no_tally })) old
+      → Stands s0 [] (record { geometry = s.geometry; stack = stack_in s new.world.events; sure = is_sure new.world.events; calls = 0; broken = None; tally = no_tally })) old
   just_stands = mount_stands limit s old new m.is m.fresh m.tells m.back m.mounted m.stand m.synced
 
-  pub just_runs : (Tells old → IsSure old.world) → FindsSnug old → CanCall s new
-  just_runs sure snug = mount_runs limit s old new m.is m.fresh m.tells m.back m.mounted m.stand m.synced sure m.whole snug
+  -- it can make calls, whatever the files are
+  pub just_runs : CanCall s new
+  just_runs = record {
+    whole = m.whole;
+    tied = λ told sure. m.tied (m.back told) (sure_unsynced (length s.layers) old.world (subst IsSure (m.synced (m.back told)) sure));
+  }
 
   pub just_agrees : OfFiles (λ files. AreSnug files → AgreesAfter s new.world.events) old
   just_agrees = mount_agrees limit s old new m.is m.fresh m.tells m.back m.mounted m.stand m.synced
@@ -101,9 +106,14 @@ module _ (limit : ℕ) (s : StackState) (old new : Seen) (m : IsJustMounted limi
 
   pub just_new : (calls : ℕ) (broken : Option ℕ) (tally : Tally) → calls ≡ 0 → broken ≡ None → tally ≡ no_tally
       → OfFiles (λ files. (s0 : Stack) → Opens s.geometry files s0
-      → Stands s0 [] (record { geometry = s.geometry; stack = stack_in s new.world.events; calls = calls; broken = broken; tally = tally })) old
+      → Stands s0 [] (record { geometry = s.geometry; stack = stack_in s new.world.events; sure = is_sure new.world.events; calls = calls; broken = broken; tally = tally })) old
   just_new calls broken tally none whole still = λ told sure s0 opens.
-      subst (λ (n : ℕ). Stands s0 [] (record { geometry = s.geometry; stack = stack_in s new.world.events; calls = n; broken = broken; tally = tally })) (sym none)
-      (subst (λ (b : Option ℕ). Stands s0 [] (record { geometry = s.geometry; stack = stack_in s new.world.events; calls = 0; broken = b; tally = tally })) (sym whole)
-      (subst (λ (t : Tally). Stands s0 [] (record { geometry = s.geometry; stack = stack_in s new.world.events; calls = 0; broken = None; tally = t })) (sym still)
+      subst (λ (n : ℕ). Stands s0 [] (record { geometry = s.geometry; stack = stack_in s new.world.events; sure = is_sure new.world.events; calls = n; broken = broken; tally = tally })) (sym none)
+      (subst (λ (b : Option ℕ). Stands s0 [] (record { geometry = s.geometry; stack = stack_in s new.world.events; sure = is_sure new.world.events; calls = 0; broken = b; tally = tally })) (sym whole)
+      (subst (λ (t : Tally). Stands s0 [] (record { geometry = s.geometry; stack = stack_in s new.world.events; sure = is_sure new.world.events; calls = 0; broken = None; tally = t })) (sym still)
       (just_stands told sure s0 opens)))
+
+-- layers that were just mounted weren't changed
+pub fresh_unchanged : (limit slot : ℕ) (layers : List LayerState) → AreFreshFrom limit slot layers → AreUnchanged layers
+fresh_unchanged limit slot [] fresh = tt
+fresh_unchanged limit slot (s ∷ ss) fresh = (record { unmarked = fresh.0.marked; hardened = fresh.0.hardened }, fresh_unchanged limit (suc slot) ss fresh.1)

@@ -4,7 +4,7 @@ use Rattle.std.specs.List.{AllByRecursion}
 use Rattle.std.proofs.lemmas.Bool.{cases_Bool, ne_eqb, cond-false}
 use Rattle.std.proofs.lemmas.List.{take-append-drop}
 use Rattle.cckd_base.specs.declared.geometry.Geometry.{Geometry}
-use Rattle.cckd_shelf.specs.Events.{Event, Put, file_now, output_of}
+use Rattle.cckd_shelf.specs.Events.{Event, Put, file_now, output_of, is_sure}
 use Rattle.cckd_shelf.specs.World.{World}
 use Rattle.cckd_shelf.specs.Outcomes.{AtEach}
 use Rattle.cckd_shelf.specs.Frame.{puts, joined, OnlyPuts, PutsFront}
@@ -60,6 +60,10 @@ files_at_puts (piece ∷ earlier) es = files_at_puts earlier es
 each_at_puts : (g : Geometry) (P : Stack → Type 0) (pieces : List (List ℕ)) (es : List Event) → EachOpens g P es → EachOpens g P (puts pieces ++ es)
 each_at_puts g P pieces es each files image = each files (image_at_puts pieces es files image)
 
+sure_at_puts : (pieces : List (List ℕ)) (es : List Event) → is_sure (puts pieces ++ es) ≡ is_sure es
+sure_at_puts [] es = refl
+sure_at_puts (piece ∷ earlier) es = sure_at_puts earlier es
+
 stack_at_puts : (stack : List Event → Stack) → ((bytes : List ℕ) (es : List Event) → stack (Put bytes ∷ es) ≡ stack es)
     → (pieces : List (List ℕ)) (es : List Event) → stack (puts pieces ++ es) ≡ stack es
 stack_at_puts stack step [] es = refl
@@ -97,21 +101,25 @@ module _ (session : Option ℕ) (r : Request) (said : Answer) (s0 : Stack) (h : 
 
   pub stands_at_puts : (g : Geometry) (stack : List Event → Stack) (calls : ℕ) (broken : Option ℕ) (tally : Tally)
       → ((bytes : List ℕ) (es : List Event) → stack (Put bytes ∷ es) ≡ stack es)
-      → Stands s0 (entry_of session r said mid.events ∷ h) (record { geometry = g; stack = stack mid.events; calls = calls; broken = broken; tally = tally })
-      → Stands s0 (entry_of session r said new.events ∷ h) (record { geometry = g; stack = stack new.events; calls = calls; broken = broken; tally = tally })
+      → Stands s0 (entry_of session r said mid.events ∷ h) (record { geometry = g; stack = stack mid.events; sure = is_sure mid.events; calls = calls; broken = broken; tally = tally })
+      → Stands s0 (entry_of session r said new.events ∷ h) (record { geometry = g; stack = stack new.events; sure = is_sure new.events; calls = calls; broken = broken; tally = tally })
   stands_at_puts g stack calls broken tally law stands =
-      subst (λ (x : Stack). Stands s0 (entry_of session r said new.events ∷ h) (record { geometry = g; stack = x; calls = calls; broken = broken; tally = tally }))
+      subst (λ (x : Stack). Stands s0 (entry_of session r said new.events ∷ h) (record { geometry = g; stack = x; sure = is_sure new.events; calls = calls; broken = broken; tally = tally }))
       (sym (ap stack put.put.events ∙ stack_at_puts stack law put.put.pieces mid.events))
-      (subst (λ (e : Entry). Stands s0 (e ∷ h) (record { geometry = g; stack = stack mid.events; calls = calls; broken = broken; tally = tally })) same_entry stands)
+      (subst (λ (b : Bool). Stands s0 (entry_of session r said new.events ∷ h) (record { geometry = g; stack = stack mid.events; sure = b; calls = calls; broken = broken; tally = tally }))
+      (sym (ap is_sure put.put.events ∙ sure_at_puts put.put.pieces mid.events))
+      (subst (λ (e : Entry). Stands s0 (e ∷ h) (record { geometry = g; stack = stack mid.events; sure = is_sure mid.events; calls = calls; broken = broken; tally = tally })) same_entry stands))
 
 -- so it does where no call is answered
 pub stands_at_text : (s0 : Stack) (h : History) (text : List ℕ) (old new : World) (g : Geometry) (stack : List Event → Stack) (calls : ℕ) (broken : Option ℕ)
     (tally : Tally) → ((bytes : List ℕ) (es : List Event) → stack (Put bytes ∷ es) ≡ stack es) → PutsFront text old new
-    → Stands s0 h (record { geometry = g; stack = stack old.events; calls = calls; broken = broken; tally = tally })
-    → Stands s0 h (record { geometry = g; stack = stack new.events; calls = calls; broken = broken; tally = tally })
+    → Stands s0 h (record { geometry = g; stack = stack old.events; sure = is_sure old.events; calls = calls; broken = broken; tally = tally })
+    → Stands s0 h (record { geometry = g; stack = stack new.events; sure = is_sure new.events; calls = calls; broken = broken; tally = tally })
 stands_at_text s0 h text old new g stack calls broken tally law put stands =
-    subst (λ (x : Stack). Stands s0 h (record { geometry = g; stack = x; calls = calls; broken = broken; tally = tally }))
-    (sym (ap stack put.put.events ∙ stack_at_puts stack law put.put.pieces old.events)) stands
+    subst (λ (x : Stack). Stands s0 h (record { geometry = g; stack = x; sure = is_sure new.events; calls = calls; broken = broken; tally = tally }))
+    (sym (ap stack put.put.events ∙ stack_at_puts stack law put.put.pieces old.events))
+    (subst (λ (b : Bool). Stands s0 h (record { geometry = g; stack = stack old.events; sure = b; calls = calls; broken = broken; tally = tally }))
+    (sym (ap is_sure put.put.events ∙ sure_at_puts put.put.pieces old.events)) stands)
 
 -- ---- at each moment
 

@@ -38,6 +38,7 @@ module _ (s0 : Stack) (h : History) (e : Entry) (old new : Standing) (stands : S
   where
     module _ (none : old.broken ≡ None)
         (answers : MayAnswer old.geometry old.stack e.request e.answer)
+        (sure : breaks e ≡ false → new.sure ≡ true)
         (stack : breaks e ≡ false → new.stack ≡ stack_after_call old.geometry old.stack e.request e.answer.reply)
         (broken : new.broken ≡ number_if (breaks e) new.calls)
         (tally : new.tally ≡ tallied e.answer.reply old.tally)
@@ -62,6 +63,7 @@ module _ (s0 : Stack) (h : History) (e : Entry) (old new : Standing) (stands : S
                   stack (if_none (breaks e) new.calls (sym broken ∙ still))
                   ∙ ap (λ (s : Stack). stack_after_call old.geometry s e.request e.answer.reply) here
                   ∙ ap (λ (g : Geometry). stack_after g s0 (e ∷ h)) (sym same);
+              sure = λ still. sure (if_none (breaks e) new.calls (sym broken ∙ still));
               number = omega (arith, number, stands.number);
               breaks =
                   let is : new.calls ≡ length h + 1 = omega (arith, number, stands.number) in
@@ -79,6 +81,7 @@ module _ (s0 : Stack) (h : History) (e : Entry) (old new : Standing) (stands : S
             record { says = subst (λ (b : Option ℕ). MaySay b old.geometry (stack_after old.geometry s0 h) e.request e.answer) (sym before) said },
           );
           last = λ none. Some≢None at (sym is ∙ sym still ∙ none);
+          sure = λ none. Some≢None at (sym is ∙ sym still ∙ none);
           number = omega (arith, number, stands.number);
           breaks = still ∙ is ∙ ap (λ (b : Option ℕ). broken_with b (length h + 1) e) (sym before);
           tally = tally ∙ stands.tally ∙ ap (λ (a : Answer). tallied a.reply (tally_of h)) (sym said);

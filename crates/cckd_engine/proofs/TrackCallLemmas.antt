@@ -27,6 +27,10 @@ use Rattle.cckd_script.specs.Text.{FitsCall, answer_limit}
 use Rattle.cckd_layer.specs.Reads.{IsReadRefusal, IsReadFault}
 use Rattle.cckd_layer.specs.Storing.{IsWriteRefusal}
 use Rattle.cckd_layer.specs.Mounted.{LayerState}
+use Rattle.cckd_layer.specs.Writes.{Agrees}
+use Rattle.cckd_layer.specs.Loose.{Tied}
+use Rattle.cckd_shelf.specs.World.{World, IsSure}
+use Rattle.std.specs.List.{AllByRecursion}
 use Rattle.cckd_stack.specs.Layers.{Stack, visible, layer_count}
 use Rattle.cckd_stack.specs.Answers.{Request, Answer, Pair, MayAnswer, refuses, answers, from_outside, plain, refused, no_such_track, first_refusal, refusal_to, pair_by, stack_after_call, IsAnswer, counts_shown}
 use Rattle.cckd_stack.specs.History.{reply_breaks}
@@ -34,9 +38,10 @@ use Rattle.cckd_stack.specs.Stops.{Lies, hardens}
 use Rattle.cckd_stack.specs.Moments.{EachOpens, Hardening, IsHardened, KeepsStops}
 use Rattle.cckd_stack.specs.Stacked.{StackState, InLayer, IsPut, Passes, Shows, FitsShown, CountsFault}
 use Rattle.cckd_stack.specs.Faulty.{bad_tracks}
-use Rattle.cckd_stack.specs.Writes.{AgreeAll, AreStack, AreUnchanged, KeepsStack, StoresOnTop, stack_now, StopsLie, IsWriteRefused, reply_by, refusal_by, is_broken_by, with_pair_on_top}
+use Rattle.cckd_stack.specs.Writes.{AgreeAll, AreTied, AreStackBy, AreUnchanged, KeepsStackBy, KeepsEach, StoresOnTopBy, StoresEach, stack_now, StopsLie, IsWriteRefused, reply_by, refusal_by, is_broken_by, with_pair_on_top}
 use Rattle.cckd_stack.specs.Called.{CanCall, AgreesAfter, stack_in}
 use Rattle.cckd_stack.proofs.TopLemmas.{with_own}
+use Rattle.cckd_stack.proofs.TiedLemmas.{tied_sure}
 use Rattle.cckd_stack.proofs.CalledLemmas.{stops_unhardened, call_breaks, write_stack}
 use Rattle.cckd_engine.specs.Calls.{CountsReply, RunStays, asks, answer_in, fault_told, writes}
 use Rattle.cckd_engine.specs.Performs.{Performs, said_to_read, said_to_display, said_to_check}
@@ -231,42 +236,66 @@ write_calm at n (Ok done) = refl
 write_calm at n (Err why) = refl
 
 -- what is written, or kept where the write is refused
-write_stack_by : (g : Geometry) (s : Stack) (layers next : List LayerState) (before after : Seen) (at : Addr) (t : ℕ) → track_at g at ≡ Some (record { 0 = t })
+write_stack_by : (R : LayerState → World → Type 0) (g : Geometry) (s : Stack) (layers next : List LayerState) (before after : Seen) (at : Addr) (t : ℕ) → track_at g at ≡ Some (record { 0 = t })
     → (given : List ℕ) (result : Result (Unit {0}) StackFault) → s ≡ stack_now null_track layers before
-    → OnOk result (StoresOnTop null_track (t, track_value given) layers next before after) → IfErr result (λ why. KeepsStack null_track layers next before after)
-    → Tells before → AgreeAll layers before.world
-    → AreStack null_track (stack_after_call g s (asks (call.Write at) given) (reply_by (reply.Written (length given)) result)) next after
-write_stack_by g s layers next before after at t found given (Ok done) is stores keeps told agree =
-    subst (λ (x : Stack). AreStack null_track x next after)
+    → OnOk result (StoresOnTopBy R null_track (t, track_value given) layers next before after) → IfErr result (λ why. KeepsStackBy R null_track layers next before after)
+    → Tells before → AllByRecursion (λ (layer : LayerState). R layer before.world) layers
+    → AreStackBy R null_track (stack_after_call g s (asks (call.Write at) given) (reply_by (reply.Written (length given)) result)) next after
+write_stack_by R g s layers next before after at t found given (Ok done) is stores keeps told agree =
+    subst (λ (x : Stack). AreStackBy R null_track x next after)
     (ap (λ (x : Stack). with_pair_on_top x (t, track_value given)) (sym is) ∙ sym (write_stack g s (asks (call.Write at) given) (t, track_value given) (reply.Written (length given)) (write_pair g at t found s given) refl))
     (stores told agree)
-write_stack_by g s layers next before after at t found given (Err why) is stores keeps told agree = subst (λ (x : Stack). AreStack null_track x next after) (sym is) (keeps told agree)
+write_stack_by R g s layers next before after at t found given (Err why) is stores keeps told agree = subst (λ (x : Stack). AreStackBy R null_track x next after) (sym is) (keeps told agree)
+
+-- by each of what the layers have to do with their files
+stores_by : (P Q : Type 0) (result : Result (Unit {0}) StackFault) → OnOk result P → (P → Q) → OnOk result Q
+stores_by P Q (Ok done) h f = f h
+stores_by P Q (Err why) h f = tt
+
+keeps_by : (P Q : Type 0) (result : Result (Unit {0}) StackFault) → IfErr result (λ why. P) → (P → Q) → IfErr result (λ why. Q)
+keeps_by P Q (Ok done) h f = tt
+keeps_by P Q (Err why) h f = f h
 
 module _ (old new : StackState) (before after : Seen) (can : CanCall old before) (back : Tells after → Tells before)
     (result : Result (Unit {0}) StackFault) (geometry : new.geometry ≡ old.geometry) (broken : new.broken ≡ is_broken_by result)
     (lies : StopsLie null_track old.geometry old.layers before after) (run : Tells before → RunStays before.world after.world)
+    (some : 1 ≤ length new.layers) (grown : Tells before → IsSure after.world → IsSure before.world)
   where
     pub write_does : (at : Addr) (t : ℕ) → track_at old.geometry at ≡ Some (record { 0 = t }) → (given : List ℕ)
-        → OnOk result (StoresOnTop null_track (t, track_value given) old.layers new.layers before after)
+        → OnOk result (StoresEach null_track (t, track_value given) old.layers new.layers before after)
         → OnOk result (track_fault old.geometry t given ≡ None)
-        → (new.broken ≡ false → IfErr result (λ why. KeepsStack null_track old.layers new.layers before after))
+        → (new.broken ≡ false → IfErr result (λ why. KeepsEach null_track old.layers new.layers before after))
         → IfErr result (InLayer (IsWriteRefused null_track (track_fault old.geometry t given) old.layers new.layers before after t (track_value given)))
         → CountsFault result before.faults after.faults
         → Performs (asks (call.Write at) given) (plain (reply_by (reply.Written (length given)) result)) old new before after
     write_does at t found given stores checked map refusal counts =
         let whole : reply_breaks (call.Write at) (reply_by (reply.Written (length given)) result) ≡ false → new.broken ≡ false =
         λ fine. broken ∙ sym (call_breaks (Unit {0}) (call.Write at) (reply.Written (length given)) result refl refl) ∙ fine in
-        let again : new.broken ≡ false → Tells before → AgreeAll old.layers before.world
-        → AreStack null_track (stack_after_call old.geometry (stack_in old before.world.events) (asks (call.Write at) given) (reply_by (reply.Written (length given)) result)) new.layers after =
+        let said = reply_by (reply.Written (length given)) result in
+        let then = stack_after_call old.geometry (stack_in old before.world.events) (asks (call.Write at) given) said in
+        let stored = StoresEach null_track (t, track_value given) old.layers new.layers before after in
+        let kept = KeepsEach null_track old.layers new.layers before after in
+        let agreed : new.broken ≡ false → Tells before → AgreeAll old.layers before.world → AreStackBy Agrees null_track then new.layers after =
         λ sound told agree.
-        write_stack_by old.geometry (stack_in old before.world.events) old.layers new.layers before after at t found given result refl stores (map sound) told agree in
+        write_stack_by Agrees old.geometry (stack_in old before.world.events) old.layers new.layers before after at t found given result refl
+        (stores_by stored (StoresOnTopBy Agrees null_track (t, track_value given) old.layers new.layers before after) result stores (λ h. h.agreed))
+        (keeps_by kept (KeepsStackBy Agrees null_track old.layers new.layers before after) result (map sound) (λ h. h.agreed)) told agree in
+        let tied : new.broken ≡ false → Tells before → AreTied old.layers before.world → AreStackBy Tied null_track then new.layers after =
+        λ sound told agree.
+        write_stack_by Tied old.geometry (stack_in old before.world.events) old.layers new.layers before after at t found given result refl
+        (stores_by stored (StoresOnTopBy Tied null_track (t, track_value given) old.layers new.layers before after) result stores (λ h. h.tied))
+        (keeps_by kept (KeepsStackBy Tied null_track old.layers new.layers before after) result (map sound) (λ h. h.tied)) told agree in
         record {
-          answers = λ told. write_answers old.geometry at t found (stack_in old before.world.events) given old.layers new.layers before after result checked refusal;
+          answers = λ told sure. write_answers old.geometry at t found (stack_in old before.world.events) given old.layers new.layers before after result checked refusal;
           fits = write_fits at given result _ refusal;
-          stack = λ told fine. (again (whole fine) told (can.tied told)).are;
-          ready = λ fine. record { whole = whole fine; tied = λ told. (again (whole fine) (back told) (can.tied (back told))).agree };
+          stack = λ told sure fine. (tied (whole fine) told (can.tied told sure)).are;
+          sure = λ told sure fine. tied_sure new.layers after.world some (tied (whole fine) told (can.tied told sure)).agree;
+          ready = λ fine. record {
+            whole = whole fine;
+            tied = λ told sure. (tied (whole fine) (back told) (can.tied (back told) (grown (back told) sure))).agree;
+          };
           geometry = geometry;
-          agrees = λ fine told agree. agrees_then new after.world (again (whole fine) told (agrees_now old before.world agree)).agree;
+          agrees = λ fine told agree. agrees_then new after.world (agreed (whole fine) told (agrees_now old before.world agree)).agree;
           stops = λ was told agree is hardened.
               let h = has old before was told agree is hardened in
               stops_unhardened old.geometry was (asks (call.Write at) given) (reply_by (reply.Written (length given)) result) before.world.events after.world.events

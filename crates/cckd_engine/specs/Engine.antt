@@ -1,11 +1,11 @@
 -- What an engine keeps, and the history of calls that it stands for.
-use Rattle.std.specs.Prelude.{◌≡◌, ℕ, ◌+◌, ◌-◌, ◌^◌, min, false, List, [], ◌∷◌, length, Option, None}
+use Rattle.std.specs.Prelude.{◌≡◌, ℕ, ◌+◌, ◌-◌, ◌^◌, min, Bool, true, false, List, [], ◌∷◌, length, Option, None}
 use Rattle.cckd_base.specs.declared.geometry.Geometry.{Geometry}
 use Rattle.cckd_base.specs.declared.reply.Reply.{Reply}
 use Rattle.cckd_base.specs.declared.reply.Reply.TheVariants.{Refused}
 use Rattle.cckd_base.specs.declared.reply.Refusal.TheVariants as refusal
 use Rattle.cckd_shelf.specs.declared.shows.Shows.{Ghosts as Showing}
-use Rattle.cckd_shelf.specs.Events.{Event, file_now}
+use Rattle.cckd_shelf.specs.Events.{Event, file_now, is_sure}
 use Rattle.cckd_shelf.specs.Seen.{Seen}
 use Rattle.cckd_shelf.specs.Outcomes.{AtEach}
 use Rattle.cckd_stack.specs.Layers.{Stack}
@@ -42,10 +42,11 @@ tally_of (e ∷ earlier) = tallied e.answer.reply (tally_of earlier)
 abbrev pub entry_of : Option ℕ → Request → Answer → List Event → Entry
 entry_of session r said events = record { session = session; request = r; answer = said; files = file_now events }
 
--- what an engine shows: the geometry and the stack of its disk, and the numbers that it keeps
+-- what an engine shows: the geometry and the stack of its disk, whether no operation failed half way, and the numbers that it keeps
 pub record Standing : Type 0 where
   pub geometry : Geometry
   pub stack : Stack
+  pub sure : Bool
   pub calls : ℕ
   pub broken : Option ℕ
   pub tally : Tally
@@ -54,6 +55,7 @@ abbrev pub standing : {T D : Type 0} → Showing T → Making D → Engine T D �
 standing shows makes engine = record {
   geometry = makes.geometry engine.disk;
   stack = makes.stack engine.disk (shows.world engine.stage).events;
+  sure = is_sure (shows.world engine.stage).events;
   calls = engine.calls;
   broken = engine.broken;
   tally = engine.tally;
@@ -75,10 +77,11 @@ pub record IsWithStage {T D : Type 0} (new old : Engine T D) : Type 0 where
   pub mute : new.mute ≡ old.mute
 
 -- An engine stands for a history, which began with a stack: the history is legal, the numbers that are kept are its own, and
--- so is the stack while no call broke it.
+-- so is the stack while no call broke it. Until then no operation failed half way.
 pub record Stands (s0 : Stack) (h : History) (s : Standing) : Type 0 where
   pub legal : IsLegal s.geometry s0 h
   pub last : s.broken ≡ None → s.stack ≡ stack_after s.geometry s0 h
+  pub sure : s.broken ≡ None → s.sure ≡ true
   pub number : s.calls ≡ length h
   pub breaks : s.broken ≡ broken_at h
   pub tally : s.tally ≡ tally_of h

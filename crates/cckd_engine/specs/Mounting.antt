@@ -1,17 +1,10 @@
--- What the mounting of an engine asks of the files, and what it counts.
+-- What the mounting of an engine counts.
 use Rattle.std.specs.Prelude.{ℕ, ◌≡◌, Result, Ok, Err}
 use Rattle.cckd_base.specs.declared.open_fault.OpenFault.{OpenFault}
 use Rattle.cckd_shelf.specs.declared.fault.Faults.{Faults}
 use Rattle.cckd_shelf.specs.declared.shows.Shows.{Ghosts as Showing}
-use Rattle.cckd_shelf.specs.Seen.{Seen, Tells}
-use Rattle.cckd_shelf.specs.World.{file_of}
 use Rattle.cckd_layer.specs.Mounted.{CountsOpen}
-use Rattle.cckd_stack.specs.Called.{AreSnug}
 use Rattle.cckd_engine.specs.declared.engine.Engine.{Engine}
-
--- the files are snug, as far as it is told
-abbrev pub FindsSnug : Seen → Type 0
-FindsSnug s = Tells s → AreSnug (file_of s.world)
 
 -- mounting an engine counts no fault, or the one by which there is none
 abbrev pub CountsMount : {T D : Type 0} → Showing T → Result (Engine T D) (T × OpenFault) → Faults → Type 0

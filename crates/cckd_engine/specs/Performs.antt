@@ -4,6 +4,7 @@ use Rattle.cckd_base.specs.declared.reply.Reply.{Reply}
 use Rattle.cckd_base.specs.declared.reply.Reply.TheVariants as reply
 use Rattle.cckd_base.specs.declared.layer_fault.StackFault.{StackFault}
 use Rattle.cckd_shelf.specs.Seen.{Seen, Tells, Stays}
+use Rattle.cckd_shelf.specs.World.{IsSure}
 use Rattle.cckd_script.specs.Text.{FitsCall}
 use Rattle.cckd_stack.specs.Answers.{Request, Answer, MayAnswer, stack_after_call}
 use Rattle.cckd_stack.specs.History.{reply_breaks}
@@ -13,13 +14,15 @@ use Rattle.cckd_stack.specs.Writes.{AreUnchanged, refusal_by}
 use Rattle.cckd_stack.specs.Called.{CanCall, AgreesAfter, stack_in}
 use Rattle.cckd_engine.specs.Calls.{CountsReply, KeepsRun, writes}
 
--- A call does what is asked of a disk: it is answered as the layered disk may answer, and leaves the stack that the layered disk
--- has after it; unless it breaks, the stack can make calls again. At each operation a stop leaves what it may leave.
+-- A call does what is asked of a disk, where no operation had failed half way: it is answered as the layered disk may answer, and
+-- leaves the stack that the layered disk has after it. Unless it breaks, none failed so, and the stack can make calls again. At each
+-- operation a stop leaves what it may leave.
 pub record Performs (r : Request) (said : Answer) (old new : StackState) (before after : Seen) : Type 0 where
-  pub answers : Tells before → MayAnswer old.geometry (stack_in old before.world.events) r said
+  pub answers : Tells before → IsSure before.world → MayAnswer old.geometry (stack_in old before.world.events) r said
   pub fits : FitsCall r.asked (length r.given) said.reply
-  pub stack : Tells before → reply_breaks r.asked said.reply ≡ false
+  pub stack : Tells before → IsSure before.world → reply_breaks r.asked said.reply ≡ false
       → stack_in new after.world.events ≡ stack_after_call old.geometry (stack_in old before.world.events) r said.reply
+  pub sure : Tells before → IsSure before.world → reply_breaks r.asked said.reply ≡ false → IsSure after.world
   pub ready : reply_breaks r.asked said.reply ≡ false → CanCall new after
   pub geometry : new.geometry ≡ old.geometry
   pub agrees : reply_breaks r.asked said.reply ≡ false → Tells before → AgreesAfter old before.world.events → AgreesAfter new after.world.events

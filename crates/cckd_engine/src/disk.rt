@@ -3,8 +3,10 @@ ghost use Rattle.std.specs.Prelude.{◌≡◌, ◌∷◌, ℕ, List, length, fal
 ghost use Rattle.cckd_base.specs.declared.geometry.Geometry.{Geometry as Shape};
 ghost use Rattle.cckd_shelf.specs.Events.{Event, Put};
 ghost use Rattle.cckd_shelf.specs.Seen.{Seen, seen, Tells, Stays};
+ghost use Rattle.cckd_shelf.specs.World.{IsSure};
 ghost use Rattle.cckd_shelf.specs.Frame.{PutsSome};
 ghost use Rattle.cckd_script.specs.Text.{FitsCall};
+ghost use Rattle.cckd_lines.specs.Lines.{OnlyTakes};
 ghost use Rattle.cckd_stack.specs.Layers.{Stack};
 ghost use Rattle.cckd_stack.specs.Answers.{MayAnswer, stack_after_call};
 ghost use Rattle.cckd_stack.specs.History.{reply_breaks};
@@ -22,7 +24,8 @@ pub trait Disk {
     /// The stack that it stands for, where these events have happened.
     ghost stack: { Self → List Event → Stack };
 
-    /// That it can make calls: no operation failed, and it is tied to the files of its slots, as far as that is told.
+    /// That it can make calls: it isn't broken, and is tied to the files of its slots, as far as that is told and no operation failed
+    /// half way.
     ghost tied: { Self → Seen → Type 0 };
 
     /// That each file is snug and agrees with it, so that it is told what stops leave.
@@ -41,15 +44,18 @@ pub trait Disk {
     ) -> Reply
         requires ready { tied self.old (seen T.Shows stage.old) }
         requires asks { CanAsk call (length input.now) (length out.old) }
-        ensures answers { Tells (seen T.Shows stage.old) → MayAnswer (geometry self.old)
+        // Where no operation had failed half way it is answered as the layered disk may answer.
+        ensures answers { Tells (seen T.Shows stage.old) → IsSure (seen T.Shows stage.old).world → MayAnswer (geometry self.old)
             (stack self.old (seen T.Shows stage.old).world.events) (asks call input.now) (answer_in result out.new) }
         ensures fits { FitsCall call (length input.now) result }
         ensures out { length out.new ≡ length out.old }
 
-        // A call that doesn't break leaves the stack that the layered disk has after it.
-        ensures stack { Tells (seen T.Shows stage.old) → reply_breaks call result ≡ false
+        // A call that doesn't break leaves the stack that the layered disk has after it, and no operation of it failed half way.
+        ensures stack { Tells (seen T.Shows stage.old) → IsSure (seen T.Shows stage.old).world → reply_breaks call result ≡ false
             → stack self.new (seen T.Shows stage.new).world.events
             ≡ stack_after_call (geometry self.old) (stack self.old (seen T.Shows stage.old).world.events) (asks call input.now) result }
+        ensures sure { Tells (seen T.Shows stage.old) → IsSure (seen T.Shows stage.old).world → reply_breaks call result ≡ false
+            → IsSure (seen T.Shows stage.new).world }
         ensures ready { reply_breaks call result ≡ false → tied self.new (seen T.Shows stage.new) }
         ensures geometry { geometry self.new ≡ geometry self.old }
 
@@ -74,6 +80,10 @@ pub trait Disk {
         → stack disk (Put bytes ∷ events) ≡ stack disk events };
 
     ghost tied_at_puts: { (disk : Self) (text : List ℕ) (s next : Seen) → next.tells ≡ s.tells → PutsSome text s next
+        → tied disk s → tied disk next };
+
+    /// Nor does the script, of which a part is taken.
+    ghost tied_at_takes: { (disk : Self) (s next : Seen) → next.tells ≡ s.tells → (Tells s → OnlyTakes s.world next.world)
         → tied disk s → tied disk next };
 
     ghost agrees_at_put: { (disk : Self) (bytes : List ℕ) (events : List Event)

@@ -164,6 +164,7 @@ impl<T: Stage, D: Disk> Engine<T, D> {
 
         // The line is put whole where it is said to be printed, and else a front of it, or nothing.
         ensures printed { result.printed ≡ not self.new.mute }
+        ensures one { self.old.mute ≡ false → IsLine (reply_line call result.reply (answered_bytes result.reply out.new)) }
         ensures said { Tells (seen T.Shows self.old.stage) → result.printed ≡ true
             → output_of (seen T.Shows self.new.stage).world.events ≡ output_of (seen T.Shows self.old.stage).world.events
             ++ reply_line call result.reply (answered_bytes result.reply out.new) }
@@ -252,6 +253,8 @@ impl<T: Stage, D: Disk> Engine<T, D> {
         ensures only { Tells (seen T.Shows self.old.stage) → OnlyTakes (seen T.Shows self.old.stage).world (seen T.Shows self.new.stage).world }
         ensures fails { Fails Takes result (seen T.Shows self.old.stage) (seen T.Shows self.new.stage) }
         ensures rest { IsWithStage self.new self.old }
+        ensures runs { Runs (D.tied self.old.disk) self.old.broken (seen T.Shows self.old.stage)
+            → Runs (D.tied self.new.disk) self.new.broken (seen T.Shows self.new.stage) }
     {
         next_line(&mut self.stage, room, place)
     }

@@ -1,16 +1,16 @@
 //! The mounting of an engine: from the files of the slots to one that can make calls.
 ghost use Rattle.std.specs.Prelude.{◌≡◌, ◌≤◌, [], length, IfOk, IfErr};
 ghost use Rattle.cckd_shelf.specs.Seen.{seen, Tells, Makes};
-ghost use Rattle.cckd_shelf.specs.World.{IsSure};
 ghost use Rattle.cckd_stack.specs.Layers.{Stack as Layered};
 ghost use Rattle.cckd_stack.specs.Opened.{Opens};
 ghost use Rattle.cckd_stack.specs.Stops.{Survives};
 ghost use Rattle.cckd_stack.specs.Moments.{EachOpens};
 ghost use Rattle.cckd_stack.specs.Stacked.{OfFiles};
 ghost use Rattle.cckd_stack.specs.Mounting.{IsMounted, IsMountCause, SyncsSome, after_syncs};
+ghost use Rattle.cckd_stack.specs.Writes.{AreUnchanged};
 ghost use Rattle.cckd_stack.specs.Called.{AreSnug, StayAbsent, CanCall, AgreesAfter};
 ghost use Rattle.cckd_engine.specs.Engine.{Stands, Runs, TellsStops, IsNew, standing};
-ghost use Rattle.cckd_engine.specs.Mounting.{FindsSnug, CountsMount};
+ghost use Rattle.cckd_engine.specs.Mounting.{CountsMount};
 
 use crate::disk::Disk;
 use crate::engine::Engine;
@@ -29,15 +29,16 @@ impl<T: Stage> Engine<T, Stack<Ckd>> {
         limit: u32,
     ) -> Result<Engine<T, Stack<Ckd>>, (T, OpenFault)>
         requires limit { limit ≤ FORMAT_LIMIT }
-        requires sure { Tells (seen T.Shows stage) → IsSure (seen T.Shows stage).world }
         ensures new { IfOk result IsNew }
         ensures mounted { OfFiles (λ files. IfOk result (λ engine. IsMounted files engine.disk)) (seen T.Shows stage) }
 
-        // It stands for the stack to which the files open, and runs; and where they are snug, it is told what stops leave.
+        // It stands for the stack to which the files open, and can make calls, also where they aren't snug; and where they are, it is
+        // told what stops leave.
         ensures stands { OfFiles (λ files. (s0 : Layered) → IfOk result (λ engine. Opens engine.disk.geometry files s0
             → Stands s0 [] (standing T.Shows ⟦<Stack<Ckd> as Disk>⟧ engine))) (seen T.Shows stage) }
         ensures opens { OfFiles (λ files. IfOk result (λ engine. (s0 : Layered) × Opens engine.disk.geometry files s0)) (seen T.Shows stage) }
-        ensures runs { FindsSnug (seen T.Shows stage) → IfOk result (λ engine. Runs (CanCall engine.disk) engine.broken (seen T.Shows engine.stage)) }
+        ensures unchanged { IfOk result (λ engine. AreUnchanged engine.disk.layers) }
+        ensures runs { IfOk result (λ engine. Runs (CanCall engine.disk) engine.broken (seen T.Shows engine.stage)) }
         ensures agrees { OfFiles (λ files. AreSnug files → IfOk result (λ engine.
             TellsStops (AgreesAfter engine.disk) engine.broken (seen T.Shows engine.stage).world.events)) (seen T.Shows stage) }
         ensures stops { OfFiles (λ files. AreSnug files → StayAbsent (seen T.Shows stage).world → (s0 : Layered) → IfOk result (λ engine. Opens engine.disk.geometry files s0

@@ -195,9 +195,10 @@ fn make<T: Stage>(
 
 impl Disk for Stack<Ckd> {
     ghost use Rattle.std.specs.Prelude.{refl};
+    ghost use Rattle.std.proofs.Common.{sym};
     ghost use Rattle.cckd_stack.specs.Called.{CanCall, AgreesAfter, stack_in};
     ghost use Rattle.cckd_stack.specs.Writes.{AreUnchanged};
-    ghost use Rattle.cckd_stack.proofs.TiedLemmas.{can_call_puts, agrees_after_put};
+    ghost use Rattle.cckd_stack.proofs.TiedLemmas.{can_call_puts, can_call_still, agrees_after_put};
 
     ghost geometry = { λ s. s.geometry };
 
@@ -222,6 +223,8 @@ impl Disk for Stack<Ckd> {
     ghost stack_at_put = { λ s bytes events. refl };
 
     ghost tied_at_puts = { can_call_puts };
+
+    ghost tied_at_takes = { λ s now next same takes. can_call_still s now next same (λ told. sym (takes told).events) };
 
     ghost agrees_at_put = { agrees_after_put };
 }

@@ -56,7 +56,7 @@ mounted_agrees roles slot limit s w new sure fresh of made stands =
 -- a layer that agrees with its file can be read
 pub agrees_reads : (s : LayerState) (seen : Seen) → AgreesIn s seen → CanRead s seen
 agrees_reads s seen agrees told sure =
-    let a = agrees told in stands_reads (kept_view s) s.tables s.slot seen.world refl refl a.stands a.are
+    let a = agrees told sure in stands_reads (kept_view s) s.tables s.slot seen.world refl refl a.stands a.are
 
 -- what keeps within what was written, keeps within more
 pub keeps_more : (null : NullBytes) (l : Layout) (d : Tracks) (later : List Later) (more : Later) (file : List ℕ) → Keeps null l d later file → Keeps null l d (more ∷ later) file

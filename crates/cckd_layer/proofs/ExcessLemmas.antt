@@ -132,7 +132,7 @@ pub looked_then : (s m : LayerState) (a b c : Seen) → (Tells a → Tells b) �
 looked_then s m a b c tells back h stays = record {
   kept = λ told. stays (tells told) ∙ h.kept told;
   rest = h.rest;
-  tied = λ told. subst (Tied m) (sym (stays (back told))) (h.tied (back told));
+  tied = λ told sure. subst (Tied m) (sym (stays (back told))) (h.tied (back told) (subst IsSure (stays (back told)) sure));
 }
 
 -- ---- what is the same
@@ -162,7 +162,7 @@ pub still_looked : (null : NullBytes) (s m : LayerState) (a b : Seen) → (Tells
 still_looked null s m a b tells h told agrees =
     let cached = m.tables.cached in
     let next = with_tables s (with_cached s.tables cached) in
-    let are : AreOf m.tables (file_of b.world m.slot) = tied_are m b.world (h.tied (tells told)) in
+    let are : AreOf m.tables (file_of b.world m.slot) = tied_are m b.world (h.tied (tells told) (subst IsSure (sym (h.kept told)) agrees.stands.sure)) in
     let same : AreOf next.tables (file_of a.world s.slot) =
     subst (λ (w : World). AreOf next.tables (file_of w s.slot)) (h.kept told) (subst (λ (x : LayerState). AreOf x.tables (file_of b.world x.slot)) h.rest are) in
     record {
@@ -174,9 +174,9 @@ still_looked null s m a b tells h told agrees =
 -- ---- the map
 
 -- the layer that was looked at has the same bytes
-pub completes_looked : (null : NullBytes) (s m : LayerState) (a b : Seen) → IsOnlyLooked s m a b → (Tells a → Agrees m b.world) → Completes null s m a b
-completes_looked null s m a b h agrees told = record {
-  agrees = agrees told;
+pub completes_looked : (null : NullBytes) (s m : LayerState) (a b : Seen) → IsOnlyLooked s m a b → (Tells a → IsSure a.world → Agrees m b.world) → Completes null s m a b
+completes_looked null s m a b h agrees told sure = record {
+  agrees = agrees told sure;
   same = record {
     each = λ t low.
         subst (λ (x : LayerState). map_of null x b t ≡ map_of null s a t) (sym h.rest)
@@ -187,8 +187,8 @@ completes_looked null s m a b h agrees told = record {
 -- what completes the layer with other tables of its file, completes it
 pub completes_from : (null : NullBytes) (s m n : LayerState) (words : List ℕ) (cached : List CachedTable) (a b c : Seen) → m ≡ with_tables s (tables_with s.tables words cached) → Stays a b → (Tells a → Tells b)
     → Completes null m n b c → Completes null s n a c
-completes_from null s m n words cached a b c e stays tells h told =
-    let k = subst (λ (x : LayerState). IsComplete null x n b c) e (h (tells told)) in
+completes_from null s m n words cached a b c e stays tells h told sure =
+    let k = subst (λ (x : LayerState). IsComplete null x n b c) e (h (tells told) (subst IsSure (sym (stays told)) sure)) in
     record {
       agrees = k.agrees;
       same = record { each = λ t low. k.same.each t low ∙ ap (λ (w : World). held null s.tables.layout s.tables.stages (file_of w s.slot) t) (stays told) };
@@ -288,7 +288,7 @@ entry_looked s tables a b tells back tied stays rest reads =
     record {
       kept = stays;
       rest = same;
-      tied = λ told. tied_stays s (with_tables s tables) a b (tied (back told)) (stays (back told)) same reads told;
+      tied = λ told sure. tied_stays s (with_tables s tables) a b (tied (back told) (subst IsSure (stays (back told)) sure)) (stays (back told)) same reads told;
     }
 
 agrees_looked : (null : NullBytes) (s m : LayerState) (a b : Seen) → (Tells a → Tells b) → IsOnlyLooked s m a b → Tells a → Agrees s a.world → Agrees m b.world
@@ -298,7 +298,7 @@ passes_looked : (s m : LayerState) (a b : Seen) (t : ℕ) (e : L2Entry) → (Tel
 passes_looked s m a b t e tells h told p =
     let cached = m.tables.cached in
     let next = with_tables s (with_cached s.tables cached) in
-    let are : AreOf m.tables (file_of b.world m.slot) = tied_are m b.world (h.tied (tells told)) in
+    let are : AreOf m.tables (file_of b.world m.slot) = tied_are m b.world (h.tied (tells told) (subst IsSure (sym (h.kept told)) p.loose.sure)) in
     let same : AreOf next.tables (file_of a.world s.slot) =
     subst (λ (w : World). AreOf next.tables (file_of w s.slot)) (h.kept told) (subst (λ (x : LayerState). AreOf x.tables (file_of b.world x.slot)) h.rest are) in
     subst (λ (x : LayerState). PassesEnd x b.world t e) (sym h.rest) (passes_with s s.tables.words cached a.world b.world t e (h.kept told) same p)

@@ -40,6 +40,7 @@ pub mod StagedLemmas
 pub mod StandLemmas
 pub mod StepLemmas
 pub mod StoreLemmas
+pub mod SureLemmas
 pub mod StoredLemmas
 pub mod SurveyedLemmas
 pub mod SwapLemmas

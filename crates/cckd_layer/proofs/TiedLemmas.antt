@@ -280,7 +280,7 @@ tied_cached s cached old new same are tied =
 
 -- a layer that is tied to its file can be read
 pub tied_reads : (s : LayerState) (seen : Seen) → TiedIn s seen → CanRead s seen
-tied_reads s seen tied told sure = elim (tied told) [
-  | inl a ↦ agrees_reads s seen (λ t. a) told sure
+tied_reads s seen tied told sure = elim (tied told sure) [
+  | inl a ↦ agrees_reads s seen (λ t certain. a) told sure
   | inr h ↦ sound_reads s.tables (file_of seen.world s.slot) (loose_layout s seen.world h) h.sound.clean h.stages h.are
 ]

@@ -3,6 +3,7 @@ use Rattle.std.proofs.Common.{◌≡◌, ◌⊎◌, ◌<◌, ◌==◌, ℕ, Bool
 use Rattle.std.proofs.lemmas.Bool.{eq-eqb, eqb-true, both_ways}
 use Rattle.cckd_shelf.specs.Outcomes.{EachOutcome}
 use Rattle.cckd_shelf.specs.Seen.{Seen, Tells}
+use Rattle.cckd_shelf.specs.World.{IsSure}
 use Rattle.cckd_shelf.specs.Frame.{OnlyIn}
 use Rattle.cckd_shelf.proofs.MomentLemmas.{joins, at_end, at_once, weaker}
 use Rattle.cckd_shelf.proofs.FrameLemmas.{only_twice, only_stays}
@@ -15,6 +16,7 @@ use Rattle.cckd_layer.specs.Writes.{Agrees, AgreesIn, KeepsMap, StopsWithin, Sto
 use Rattle.cckd_layer.specs.Storing.{StoresTrack}
 use Rattle.cckd_layer.specs.Callers.{StopsWritten, HoldsWritten, ClosesFile, StoresTied}
 use Rattle.cckd_layer.specs.Loose.{Completes}
+use Rattle.cckd_layer.proofs.SureLemmas.{sure_spared}
 use Rattle.cckd_layer.proofs.ThenLemmas.{same_file_twice, within_as}
 
 -- what keeps within what was written keeps within more
@@ -51,11 +53,15 @@ write_stops null more s a b law h d later told agrees within each =
 -- writes of one track so far: each was made, and the layer agrees with its file
 pub record HasWritten (null : NullBytes) (more : Later) (s now : LayerState) (old new : Seen) : Type 0 where
   pub same : IsSameFile s now
-  pub agrees : AgreesIn now new
+  pub agrees : Tells new → IsSure old.world → Agrees now new.world
   pub lies : (d : Tracks) (later : List Later) → Tells old → Agrees s old.world → LiesWithin (track_count s.tables.layout.geo) d (more ∷ later) (map_of null s old)
       → LiesWithin (track_count s.tables.layout.geo) d (more ∷ later) (map_of null now new)
   pub stopped : StopsWritten null more s old new
   pub others : OnlyIn s.slot old new
+
+-- the layer agrees with its file, as far as no operation failed half way
+pub written_agrees : (null : NullBytes) (more : Later) (s now : LayerState) (old new : Seen) → (Tells new → Tells old) → HasWritten null more s now old new → AgreesIn now new
+written_agrees null more s now old new back h told sure = h.agrees told (sure_spared s.slot old.world new.world (h.others (back told)) sure)
 
 -- none yet
 pub none_written : (null : NullBytes) (more : Later) (s : LayerState) (a : Seen) → KeepMore → AgreesIn s a → HasWritten null more s s a a
@@ -75,7 +81,7 @@ act_behind null more s m a b c tells h k d later told agrees within each =
     let Q = EachOutcome s.slot (Keeps null l d (more ∷ later)) in
     let first = h.stopped d later told agrees within each in
     joins Q a.world.events b.world.events c.world.events first
-    (within_as [] null s.slot l m b c h.same.slot h.same.layout k d (more ∷ later) (tells told) (h.agrees (tells told))
+    (within_as [] null s.slot l m b c h.same.slot h.same.layout k d (more ∷ later) (tells told) (h.agrees (tells told) agrees.stands.sure)
     (h.lies d later told agrees (more_within (track_count l.geo) d (map_of null s a) more later within)) (at_end Q a.world.events b.world.events first))
 
 pub others_behind : (null : NullBytes) (more : Later) (s m : LayerState) (a b c : Seen) → (Tells a → Tells b) → HasWritten null more s m a b → OnlyIn m.slot b c → OnlyIn s.slot a c
@@ -86,10 +92,10 @@ pub written_again : (null : NullBytes) (more : Later) (s m n : LayerState) (a b 
     → IsSameFile m n → StoresTrack null m n more.track more.bytes b c → StopsWithin null m b c → OnlyIn m.slot b c → HasWritten null more s n a c
 written_again null more s m n a b c tells back h same stores stopped others = record {
   same = same_file_twice s m n h.same same;
-  agrees = λ told. (stores (back told) (h.agrees (back told))).agrees;
+  agrees = λ told sure. (stores (back told) (h.agrees (back told) sure)).agrees;
   lies = λ d later told agrees within.
       stored_within (track_count s.tables.layout.geo) d (map_of null m b) (map_of null n c) more later (h.lies d later told agrees within)
-      (subst (λ (l : Layout). Stores (track_count l.geo) more.track (Some more.bytes) (map_of null m b) (map_of null n c)) h.same.layout (stores (tells told) (h.agrees (tells told))).stores);
+      (subst (λ (l : Layout). Stores (track_count l.geo) more.track (Some more.bytes) (map_of null m b) (map_of null n c)) h.same.layout (stores (tells told) (h.agrees (tells told) agrees.stands.sure)).stores);
   stopped = act_behind null more s m a b c tells h stopped;
   others = others_behind null more s m a b c tells h others;
 }
@@ -140,8 +146,8 @@ closes_result (Err why) null more s m a b c tells same h k = tt
 -- what is written behind a completing is written to the layer that was tied to its file
 pub stored_tied : (null : NullBytes) (more : Later) (s m n : LayerState) (a b c : Seen) → (Tells a → Tells b) → m.tables.layout ≡ s.tables.layout → Completes null s m a b → StoresTrack null m n more.track more.bytes b c
     → StoresTied null more s n a c
-stored_tied null more s m n a b c tells layout h k told =
-    let whole = h told in
+stored_tied null more s m n a b c tells layout h k told sure =
+    let whole = h told sure in
     let p = k (tells told) whole.agrees in
     record {
       agrees = p.agrees;

@@ -1,6 +1,7 @@
 -- What the calls of a layer make one after another.
 use Rattle.std.specs.Prelude.{ℕ, List, [], ◌∷◌, Some}
 use Rattle.cckd_shelf.specs.Seen.{Seen, Tells}
+use Rattle.cckd_shelf.specs.World.{IsSure}
 use Rattle.cckd_shelf.specs.Outcomes.{EachOutcome, AtEach}
 use Rattle.cckd_base.specs.Geometry.{track_count}
 use Rattle.cckd_layer.specs.Held.{NullBytes, Tracks, Later, Stores, LiesWithin, Keeps, Holds}
@@ -31,4 +32,4 @@ ClosesFile s old new = Tells old → Agrees s old.world → StaysClosed s.tables
 
 -- a layer that was tied to its file agrees with it then, and has these bytes of the track, and of the others those that it had
 abbrev pub StoresTied : NullBytes → Later → LayerState → LayerState → Seen → Seen → Type 0
-StoresTied null more s next old new = Tells old → StoresIn [] null s next more.track (Some more.bytes) old new
+StoresTied null more s next old new = Tells old → IsSure old.world → StoresIn [] null s next more.track (Some more.bytes) old new

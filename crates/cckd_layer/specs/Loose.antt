@@ -42,18 +42,18 @@ pub record Loose (s : LayerState) (w : World) : Type 0 where
 abbrev pub Tied : LayerState → World → Type 0
 Tied s w = Agrees s w ⊎ Loose s w
 
--- so it is, as far as it is told
+-- so it is, as far as it is told and no operation failed half way
 abbrev pub TiedIn : LayerState → Seen → Type 0
-TiedIn s seen = Tells seen → Tied s seen.world
+TiedIn s seen = Tells seen → IsSure seen.world → Tied s seen.world
 
 -- a layer that was tied to its file agrees with it, and has the bytes of each track that it had
 pub record IsComplete (null : NullBytes) (s next : LayerState) (old new : Seen) : Type 0 where
   pub agrees : Agrees next new.world
   pub same : AreSame (track_count s.tables.layout.geo) (map_of null next new) (map_of null s old)
 
--- so it does, as far as it is told
+-- so it does, as far as it is told and no operation had failed half way
 abbrev pub Completes : NullBytes → LayerState → LayerState → Seen → Seen → Type 0
-Completes null s next old new = Tells old → IsComplete null s next old new
+Completes null s next old new = Tells old → IsSure old.world → IsComplete null s next old new
 
 -- the layer is the same but for its cached tables and whether it is broken
 pub record IsSameBeside (s next : LayerState) : Type 0 where

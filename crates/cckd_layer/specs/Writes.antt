@@ -4,7 +4,7 @@ use Rattle.cckd_shelf.specs.declared.fault.Faults.{Faults}
 use Rattle.cckd_shelf.specs.declared.fault.Kind.TheVariants.{Reads, Writes, Syncs}
 use Rattle.cckd_shelf.specs.Faults.{Raises}
 use Rattle.cckd_shelf.specs.Seen.{Seen, Tells}
-use Rattle.cckd_shelf.specs.World.{World, file_of}
+use Rattle.cckd_shelf.specs.World.{World, IsSure, file_of}
 use Rattle.cckd_shelf.specs.Outcomes.{EachOutcome, AtEach}
 use Rattle.cckd_shelf.specs.Frame.{OnlyIn}
 use Rattle.cckd_base.specs.declared.geometry.Layout.{Layout}
@@ -52,9 +52,9 @@ pub record AgreesWith (claims : List Extent) (s : LayerState) (w : World) : Type
 abbrev pub Agrees : LayerState → World → Type 0
 Agrees = AgreesWith []
 
--- so it does, as far as it is told
+-- so it does, as far as it is told and no operation failed half way
 abbrev pub AgreesIn : LayerState → Seen → Type 0
-AgreesIn s seen = Tells seen → Agrees s seen.world
+AgreesIn s seen = Tells seen → IsSure seen.world → Agrees s seen.world
 
 -- the bytes of each track that the layer has now
 abbrev pub map_of : NullBytes → LayerState → Seen → Tracks

@@ -103,8 +103,8 @@ impl<U: Unit> Layer<U> {
     fn excess<T: Stage>(&mut self, stage: &mut T) -> Result<Option<Excess>, LayerFault>
         requires tied { TiedIn self.old (seen T.Shows stage.old) }
         ensures low { IfOk result (λ o. IfSome o (λ x. x.track.0 < track_count self.old.tables.layout.geo)) }
-        ensures none { Tells (seen T.Shows stage.old) → IfOk result (λ o. o ≡ None → Agrees self.new (seen T.Shows stage.new).world) }
-        ensures some { Tells (seen T.Shows stage.old) → IfOk result (λ o. IfSome o (λ x. PassesEnd self.new (seen T.Shows stage.new).world x.track.0 x.entry)) }
+        ensures none { Tells (seen T.Shows stage.old) → IsSure (seen T.Shows stage.old).world → IfOk result (λ o. o ≡ None → Agrees self.new (seen T.Shows stage.new).world) }
+        ensures some { Tells (seen T.Shows stage.old) → IsSure (seen T.Shows stage.old).world → IfOk result (λ o. IfSome o (λ x. PassesEnd self.new (seen T.Shows stage.new).world x.track.0 x.entry)) }
         ensures agreed { Tells (seen T.Shows stage.old) → Agrees self.old (seen T.Shows stage.old).world → IfOk result (λ o. o ≡ None) }
         ensures looked { IsOnlyLooked self.old self.new (seen T.Shows stage.old) (seen T.Shows stage.new) }
         ensures refusal { IfErr result (λ why. why ≡ LayerFault.ReadFault) }
@@ -140,7 +140,7 @@ impl<U: Unit> Layer<U> {
         requires whole { self.old.broken ≡ false }
         requires low { excess.track.0 < track_count self.old.tables.layout.geo }
         requires bare { self.old.tables.cached ≡ [] }
-        requires passes { Tells (seen T.Shows stage.old) → PassesEnd self.old (seen T.Shows stage.old).world excess.track.0 excess.entry }
+        requires passes { Tells (seen T.Shows stage.old) → IsSure (seen T.Shows stage.old).world → PassesEnd self.old (seen T.Shows stage.old).world excess.track.0 excess.entry }
         ensures completed { OnOk result (Completes U.null_bytes self.old self.new (seen T.Shows stage.old) (seen T.Shows stage.new)) }
         ensures same { IsSameBeside self.old self.new }
         ensures broken { self.new.broken ≡ is_broken_by result }

@@ -1,7 +1,6 @@
 //! Bases whose one stored track says that its space passes the file's end.
-ghost use Rattle.std.specs.Prelude.{◌≡◌, ◌≤◌, false, length, IfOk, OnOk};
-ghost use Rattle.cckd_shelf.specs.Seen.{seen, Tells};
-ghost use Rattle.cckd_shelf.specs.World.{IsSure};
+ghost use Rattle.std.specs.Prelude.{◌≡◌, ◌≤◌, false, length, IfOk};
+ghost use Rattle.cckd_shelf.specs.Seen.{seen};
 ghost use Rattle.cckd_layer.specs.Mounted.{CanRead};
 ghost use Rattle.cckd_layer.specs.Loose.{TiedIn};
 
@@ -17,7 +16,6 @@ use std::test::Fail;
 
 /// A layer over the base in a slot.
 fn mounted<T: Stage>(alloc: Global, stage: &mut T, slot: Slot) -> Result<Layer<Ckd>, Fail>
-    requires sure { IsSure (seen T.Shows stage.old).world }
     ensures whole { IfOk result (λ layer. layer.broken ≡ false) }
     ensures can_read { IfOk result (λ layer. CanRead layer (seen T.Shows stage.new)) }
     ensures tied { IfOk result (λ layer. TiedIn layer (seen T.Shows stage.new)) }
@@ -38,7 +36,6 @@ fn rewrite<T: Stage>(
     requires whole { layer.old.broken ≡ false }
     requires long { length bytes.now ≤ 65535 }
     requires tied { TiedIn layer.old (seen T.Shows stage.old) }
-    ensures sure { Tells (seen T.Shows stage.old) → OnOk result (IsSure (seen T.Shows stage.new).world) }
 {
     if layer.layout().geo.tracks() <= number {
         return Err(Fail::new("no such track"));

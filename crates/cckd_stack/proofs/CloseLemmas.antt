@@ -1,12 +1,12 @@
 -- Layers closed one after another, the last one first.
-use Rattle.std.proofs.Common.{◌≡◌, ⊎_elim, ℕ, zero, suc, ◌+◌, ◌<◌, ◌≤◌, true, false, List, [], ◌∷◌, ◌++◌, length, drop, get_or, set, refl, sym, ◌∙◌, ap, subst, arith}
+use Rattle.std.proofs.Common.{◌≡◌, ⊎_elim, ℕ, zero, suc, ◌+◌, ◌<◌, ◌≤◌, true, false, List, [], ◌∷◌, length, drop, get_or, set, refl, sym, ◌∙◌, ap, subst, arith}
 use Rattle.std.specs.List.{AllByRecursion}
 use Rattle.std.proofs.Math.Seq.{drop-cons, drop-length}
 use Rattle.std.proofs.lemmas.Bool.{false≢true, cases_lt, cases_Bool}
 use Rattle.std.proofs.lemmas.List.{drop-set, set-get_or, get_or-set_other}
 use Rattle.cckd_base.specs.declared.geometry.Geometry.{Geometry}
 use Rattle.cckd_base.specs.declared.geometry.Layout.{Layout}
-use Rattle.cckd_shelf.specs.Events.{Event, Written, Torn, Cut, HalfCut, Synced, Put, Bound, is_sure}
+use Rattle.cckd_shelf.specs.Events.{Event}
 use Rattle.cckd_shelf.specs.Seen.{Seen, Tells}
 use Rattle.cckd_shelf.specs.World.{World, file_of}
 use Rattle.cckd_shelf.specs.Outcomes.{IsOutcome, EachOutcome, OthersStill}
@@ -17,12 +17,14 @@ use Rattle.cckd_layer.specs.Closed.{IsClosed}
 use Rattle.cckd_layer.specs.Held.{NullBytes}
 use Rattle.cckd_layer.specs.Mounted.{LayerState, ReadsFrom, CanRead}
 use Rattle.cckd_layer.specs.Writes.{Agrees, KeepsMap, StopsWithin, StopHolds, IsSameFile, StaysClosed}
+use Rattle.cckd_layer.specs.Loose.{Tied}
 use Rattle.cckd_stack.specs.Stops.{Lies}
 use Rattle.cckd_stack.specs.Moments.{EachOpens}
 use Rattle.cckd_stack.specs.Stacked.{IsLayerIn, AreLayersFrom, AreWhole, CanReadAll}
-use Rattle.cckd_stack.specs.Writes.{AgreeAll, KeepsStack, IsUnchanged, AreUnchanged, HasNoChange, SparesUnchanged, OnlyInChanged, IsClosedIn, AreSameFiles, StopsLie, StopsSettle, all_hardened}
+use Rattle.cckd_stack.specs.Writes.{AgreeAll, KeepsStackBy, KeepsStack, KeepsEach, KeepsLayer, IsUnchanged, AreUnchanged, HasNoChange, SparesUnchanged, OnlyInChanged, IsClosedIn, AreSameFiles, StopsLie, StopsSettle, all_hardened}
+use Rattle.cckd_layer.proofs.SureLemmas.{sure_spared}
 use Rattle.cckd_stack.proofs.LayerListLemmas.{all_at, all_set, layer_at}
-use Rattle.cckd_stack.proofs.WritesLemmas.{set_lies, set_settles, kept_hardening, settled_hardening}
+use Rattle.cckd_stack.proofs.WritesLemmas.{still_ties, set_lies, set_settles, kept_hardening, settled_hardening}
 use Rattle.cckd_stack.proofs.LowerLemmas.{lower_lies, any_keeps}
 
 -- ---- lists of layers
@@ -130,11 +132,18 @@ closed_above g at slot (s ∷ ss) a b low are h all = (
 
 -- ---- one call after another
 
-keeps_twice : (null : NullBytes) (a b c : List LayerState) (x y z : Seen) → (Tells x → Tells y) → KeepsStack null a b x y → KeepsStack null b c y z → KeepsStack null a c x z
-keeps_twice null a b c x y z tells f g = λ told agree.
+twice_by : (R : LayerState → World → Type 0) (null : NullBytes) (a b c : List LayerState) (x y z : Seen) → (Tells x → Tells y) → KeepsStackBy R null a b x y → KeepsStackBy R null b c y z
+    → KeepsStackBy R null a c x z
+twice_by R null a b c x y z tells f g = λ told agree.
     let h = f told agree in
     let k = g (tells told) h.agree in
     record { agree = k.agree; are = k.are ∙ h.are }
+
+keeps_twice : (null : NullBytes) (a b c : List LayerState) (x y z : Seen) → (Tells x → Tells y) → KeepsEach null a b x y → KeepsEach null b c y z → KeepsEach null a c x z
+keeps_twice null a b c x y z tells f g = record {
+  agreed = twice_by Agrees null a b c x y z tells f.agreed g.agreed;
+  tied = twice_by Tied null a b c x y z tells f.tied g.tied;
+}
 
 lies_twice : (null : NullBytes) (g : Geometry) (a b : List LayerState) (x y z : Seen) → (Tells x → Tells y) → KeepsStack null a b x y → StopsLie null g a x y → StopsLie null g b y z
     → StopsLie null g a x z
@@ -151,22 +160,11 @@ any_lies null g layers n x old new is low are others stopped = λ was has. ⊎_e
 
 -- ---- reading goes on
 
-sure_before : (newer old : List Event) → is_sure (newer ++ old) ≡ true → is_sure old ≡ true
-sure_before [] old sure = sure
-sure_before (Written slot position bytes ∷ newer) old sure = sure_before newer old sure
-sure_before (Torn slot position bytes ∷ newer) old sure = absurd (false≢true sure)
-sure_before (Cut slot len ∷ newer) old sure = sure_before newer old sure
-sure_before (HalfCut slot len ∷ newer) old sure = absurd (false≢true sure)
-sure_before (Synced slot ∷ newer) old sure = sure_before newer old sure
-sure_before (Put bytes ∷ newer) old sure = sure_before newer old sure
-sure_before (Bound slot name bytes ∷ newer) old sure = sure_before newer old sure
-
 -- a layer can be read where only another slot's file was changed
 read_beside : (s : LayerState) (at : ℕ) (old new : Seen) → (Tells new → Tells old) → OnlyIn at old new → (at ≡ s.slot → ⊥) → CanRead s old → CanRead s new
 read_beside s at old new tells others apart can = λ told sure.
     let h = others (tells told) in
-    let grown : is_sure (h.others.newer ++ old.world.events) ≡ true = subst (λ (es : List Event). is_sure es ≡ true) h.others.grown sure in
-    subst (ReadsFrom s.tables) (sym (h.files s.slot apart)) (can (tells told) (sure_before h.others.newer old.world.events grown))
+    subst (ReadsFrom s.tables) (sym (h.files s.slot apart)) (can (tells told) (sure_spared at old.world new.world h sure))
 
 -- ---- some layers were closed
 
@@ -176,7 +174,7 @@ pub record HasClosed (null : NullBytes) (g : Geometry) (start now : List LayerSt
   pub whole : AreWhole now
   pub files : AreSameFiles start now
   pub below : (i : ℕ) (d : LayerState) → i < left → get_or now i d ≡ get_or start i d
-  pub keeps : KeepsStack null start now a b
+  pub keeps : KeepsEach null start now a b
   pub lies : StopsLie null g start a b
   pub settled : left < length start → StopsSettle null g start a b
   pub spares : OnlyInChanged start a b
@@ -196,7 +194,7 @@ none_closed null g start a left e are whole can =
       whole = whole;
       files = same_files start;
       below = λ i d low. refl;
-      keeps = λ told agree. record { agree = agree; are = refl };
+      keeps = record { agreed = λ told agree. record { agree = agree; are = refl }; tied = λ told tied. record { agree = tied; are = refl } };
       lies = λ was has. at_once (EachOpens g (Lies was.hard was.later)) a.world.events has.hardened.stops;
       settled = λ low. absurd (omega (arith, e, low));
       spares = λ told. spares_none start a.world;
@@ -219,7 +217,7 @@ module _ (null : NullBytes) (g : Geometry) (start now : List LayerState) (a b : 
     agrees_here : Tells a → AgreeAll start a.world → Agrees x b.world
     agrees_here told agree =
         subst (λ (s : LayerState). Agrees s b.world) (sym is)
-        (all_at (λ (s : LayerState). Agrees s b.world) now n x (was.keeps told agree).agree inside)
+        (all_at (λ (s : LayerState). Agrees s b.world) now n x (was.keeps.agreed told agree).agree inside)
 
     -- it is as it was at the start
     at_start : x ≡ get_or start n x
@@ -244,17 +242,17 @@ module _ (null : NullBytes) (g : Geometry) (start now : List LayerState) (a b : 
       pub next_whole : y.broken ≡ false → AreWhole (set now n y)
       next_whole h = all_set (λ (s : LayerState). s.broken ≡ false) now n y was.whole h
 
-      step_keeps : KeepsMap null x y b c → KeepsStack null now (set now n y) b c
-      step_keeps map = any_keeps null g now n x y b c is inside was.slots same others map
+      step_keeps : KeepsLayer null x y b c → KeepsEach null now (set now n y) b c
+      step_keeps keeps = any_keeps null g now n x y b c is inside was.slots same others keeps
 
-      pub next_keeps : KeepsMap null x y b c → KeepsStack null start (set now n y) a c
-      next_keeps map = keeps_twice null start now (set now n y) a b c tells was.keeps (step_keeps map)
+      pub next_keeps : KeepsMap null x y b c → (x.marked ≡ false → x.hardened ≡ true → (y ≡ x) × (c ≡ b)) → KeepsEach null start (set now n y) a c
+      next_keeps map still = keeps_twice null start now (set now n y) a b c tells was.keeps (step_keeps (still_ties null x y b c map still))
 
       step_lies : StopsWithin null x b c → StopsLie null g now b c
       step_lies stopped = any_lies null g now n x b c is inside was.slots others stopped
 
       pub next_lies : StopsWithin null x b c → StopsLie null g start a c
-      next_lies stopped = lies_twice null g start now a b c tells was.keeps was.lies (step_lies stopped)
+      next_lies stopped = lies_twice null g start now a b c tells was.keeps.agreed was.lies (step_lies stopped)
 
       pub next_spares : (x.marked ≡ false → x.hardened ≡ true → c.world ≡ b.world) → OnlyInChanged start a c
       next_spares still = λ told.
@@ -264,11 +262,11 @@ module _ (null : NullBytes) (g : Geometry) (start now : List LayerState) (a b : 
       next_settled : StopsWithin null x b c → StopHolds null x b c → StopsSettle null g start a c
       next_settled stopped holds = λ had has. ⊎_elim
           (λ (below : left < length start).
-          let then = settled_hardening null g start now a b had has tells was.keeps (was.settled below) in
+          let then = settled_hardening null g start now a b had has tells was.keeps.agreed (was.settled below) in
           at_end (EachOpens g (Lies had.stack [])) b.world.events c.world.events (step_lies stopped (all_hardened had) then))
           (λ (last : length start ≤ left).
           let long = files_length start now was.files in
-          let then = kept_hardening null g start now a b had has tells was.keeps was.lies in
+          let then = kept_hardening null g start now a b had has tells was.keeps.agreed was.lies in
           set_settles now n x y is (omega (arith, long, next, low, last)) null g b c was.slots same others holds had then)
           (cases_lt left (length start))
 
@@ -315,7 +313,7 @@ module _ (null : NullBytes) (g : Geometry) (start now : List LayerState) (a b : 
         whole = next_whole whole;
         files = next_files;
         below = λ i d less. get_or-set_other now n i y d (λ j. absurd (omega (arith, j, less))) ∙ was.below i d (omega (arith, less, next));
-        keeps = next_keeps map;
+        keeps = next_keeps map still;
         lies = next_lies stopped;
         settled = λ less. next_settled stopped holds;
         spares = next_spares (λ unmarked fast. ap (λ (s : Seen). s.world) (still unmarked fast).1);

@@ -1,5 +1,5 @@
 -- The used and the free space of a sound image cover it.
-use Rattle.std.proofs.Common.{◌≡◌, ℕ, ◌+◌, ◌-◌, ◌<◌, ◌≤◌, nat_le, nat_lt, true, false, ◌&&◌, cond, List, [], ◌∷◌, ◌++◌, length, refl, sym, ◌∙◌, ap, inl, inr, arith}
+use Rattle.std.proofs.Common.{◌≡◌, ℕ, ◌+◌, ◌-◌, ◌<◌, ◌≤◌, nat_le, nat_lt, ◌&&◌, cond, List, [], ◌∷◌, ◌++◌, length, sym, ◌∙◌, ap, inl, inr, arith}
 use Rattle.std.proofs.lemmas.Bool.{cases_lt, cond-true, cond-false, and_from, and_left, and_right, le-leb, lt-ltb, le-ltb, lt-leb}
 use Rattle.cckd_base.specs.declared.geometry.Layout.{Layout}
 use Rattle.cckd_base.specs.declared.space.Extent.{Extent}
@@ -9,7 +9,7 @@ use Rattle.cckd_base.proofs.HeaderLemmas.{headed_layout, headed_area}
 use Rattle.cckd_space.specs.declared.piece.Piece.{Piece}
 use Rattle.cckd_space.specs.Pieces.{free_piece, free_run, free_runs}
 use Rattle.cckd_space.proofs.LaidLemmas.{used_le}
-use Rattle.cckd_tables.specs.Kept.{holding, holders}
+use Rattle.cckd_tables.specs.Kept.{holders}
 use Rattle.cckd_tables.proofs.MeetLemmas.{hold_in, hold_before, hold_past}
 use Rattle.cckd_layer.proofs.SurveyedLemmas.{used_stand}
 use Rattle.cckd_stack.specs.Opened.{IsCovered, runs_with}

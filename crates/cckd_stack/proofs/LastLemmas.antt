@@ -1,5 +1,5 @@
 -- The last of some layers, and what is made of a stack by what is made of that one.
-use Rattle.std.proofs.Common.{◌≡◌, ℕ, zero, suc, ◌+◌, ◌-◌, ◌<◌, false, List, [], ◌∷◌, ◌++◌, length, take, get_or, set, refl, sym, ◌∙◌, ap, subst, arith}
+use Rattle.std.proofs.Common.{◌≡◌, ℕ, zero, suc, ◌+◌, ◌-◌, ◌<◌, false, List, [], ◌∷◌, ◌++◌, length, take, get_or, set, refl, sym, ◌∙◌, ap, subst, inl, inr, arith}
 use Rattle.std.specs.List.{AllByRecursion}
 use Rattle.std.proofs.Math.Seq.{get_or-append_seam}
 use Rattle.std.proofs.lemmas.List.{get_or_append_left, length-append}
@@ -16,10 +16,12 @@ use Rattle.cckd_layer.specs.Current.{Current}
 use Rattle.cckd_layer.specs.Held.{NullBytes}
 use Rattle.cckd_layer.specs.Mounted.{LayerState}
 use Rattle.cckd_layer.specs.Writes.{Agrees}
+use Rattle.cckd_layer.specs.Loose.{Tied}
+use Rattle.cckd_layer.proofs.ExcessLemmas.{loose_beside}
 use Rattle.cckd_stack.specs.Layers.{Layer, Stack, base, shadow, empty_layer, top, with_top}
 use Rattle.cckd_stack.specs.Tops.{top_slot}
 use Rattle.cckd_stack.specs.Stacked.{IsLayerIn, AreLayersFrom, AreWhole, map_of, maps_of, map_at, stack_to, stack_by, stack_of}
-use Rattle.cckd_stack.specs.Writes.{AgreeAll, AreStack, ChangesLast, stack_now}
+use Rattle.cckd_stack.specs.Writes.{AgreeAll, AreStackBy, ChangesLast, stack_now}
 use Rattle.cckd_stack.proofs.LayerListLemmas.{maps_length}
 use Rattle.cckd_stack.proofs.BridgeLemmas.{count_to}
 
@@ -164,12 +166,21 @@ beside s slot old new apart sure spares a =
           (other_keeps (λ (g : List ℕ). g ≡ file_of old s.slot) slot s.slot old.events new.events apart still (a.alone h));
     }
 
-lower_agree : (g : Geometry) (slot n : ℕ) (lower : List LayerState) (x y : LayerState) (old new : World) → n ≡ slot + length lower → AreLayersFrom g slot (lower ++ x ∷ [])
-    → IsSure new → SparesOthers n old new → AgreeAll (lower ++ x ∷ []) old → Agrees y new → AgreeAll (lower ++ y ∷ []) new
-lower_agree g slot n [] x y old new e are sure spares agree last = (last, tt)
-lower_agree g slot n (s ∷ lower) x y old new e are sure spares agree last = (
-  beside s n old new (λ same. absurd (omega (arith, same, e, are.0.slot_is))) sure spares agree.0,
-  lower_agree g (suc slot) n lower x y old new (omega (arith, e)) are.1 sure spares agree.1 last,
+-- what a layer has to do with the world stays where another slot's file is changed
+abbrev pub StaysBeside : (LayerState → World → Type 0) → Type 0
+StaysBeside R = (s : LayerState) (slot : ℕ) (old new : World) → (slot ≡ s.slot → ⊥) → IsSure new → SparesOthers slot old new → R s old → R s new
+
+pub tied_beside : StaysBeside Tied
+tied_beside s slot old new apart sure spares (inl a) = inl (beside s slot old new apart sure spares a)
+tied_beside s slot old new apart sure spares (inr h) = inr (loose_beside s slot old new apart sure spares h)
+
+lower_by : (R : LayerState → World → Type 0) → StaysBeside R → (g : Geometry) (slot n : ℕ) (lower : List LayerState) (x y : LayerState) (old new : World) → n ≡ slot + length lower
+    → AreLayersFrom g slot (lower ++ x ∷ []) → IsSure new → SparesOthers n old new → AllByRecursion (λ (s : LayerState). R s old) (lower ++ x ∷ []) → R y new
+    → AllByRecursion (λ (s : LayerState). R s new) (lower ++ y ∷ [])
+lower_by R stays g slot n [] x y old new e are sure spares agree last = (last, tt)
+lower_by R stays g slot n (s ∷ lower) x y old new e are sure spares agree last = (
+  stays s n old new (λ same. absurd (omega (arith, same, e, are.0.slot_is))) sure spares agree.0,
+  lower_by R stays g (suc slot) n lower x y old new (omega (arith, e)) are.1 sure spares agree.1 last,
 )
 
 lower_maps : (null : NullBytes) (g : Geometry) (slot n : ℕ) (lower : List LayerState) (x : LayerState) (old new : World) → n ≡ slot + length lower
@@ -188,19 +199,23 @@ module _ (null : NullBytes) (g : Geometry) (lower : List LayerState) (x y : Laye
     spared : Tells old → SparesOthers (length lower) old.world new.world
     spared told = subst (λ (n : ℕ). SparesOthers n old.world new.world) (at ∙ (own_layer g lower x are).slot_is) (others told)
 
-    -- the layer agrees with its file, and so do all, whose stack has another last layer
-    pub last_changed : (m : Layer) → Tells old → AgreeAll (lower ++ x ∷ []) old.world → Agrees y new.world → map_of null y (file_of new.world y.slot) ≡ m
-        → AreStack null (with_top (stack_now null (lower ++ x ∷ []) old) m) (lower ++ y ∷ []) new
-    last_changed m told agree last is =
+    -- the layer has to do with its file what all had, and so do all, whose stack has another last layer
+    pub last_changed : (R : LayerState → World → Type 0) → StaysBeside R → (m : Layer) → Tells old → IsSure new.world → AllByRecursion (λ (s : LayerState). R s old.world) (lower ++ x ∷ []) → R y new.world
+        → map_of null y (file_of new.world y.slot) ≡ m → AreStackBy R null (with_top (stack_now null (lower ++ x ∷ []) old) m) (lower ++ y ∷ []) new
+    last_changed R stays m told sure agree last is =
         let was = map_of null x (file_of old.world x.slot) in
         let maps = maps_of null lower (file_of old.world) in
         record {
-          agree = lower_agree g 0 (length lower) lower x y old.world new.world (omega arith) are last.stands.sure (spared told) agree last;
+          agree = lower_by R stays g 0 (length lower) lower x y old.world new.world (omega arith) are sure (spared told) agree last;
           are = layers_over null (file_of new.world) lower y
               ∙ ap (λ (ms : List Layer). over ms (map_of null y (file_of new.world y.slot))) (lower_maps null g 0 (length lower) lower x old.world new.world (omega arith) are (spared told))
               ∙ ap (over maps) is
               ∙ sym (ap (λ (s : Stack). with_top s m) (layers_over null (file_of old.world) lower x) ∙ with_over maps was m);
         }
+
+-- what all layers have to do with their files, the last one has
+pub own_by : (R : LayerState → World → Type 0) (lower : List LayerState) (x : LayerState) (w : World) → AllByRecursion (λ (s : LayerState). R s w) (lower ++ x ∷ []) → R x w
+own_by R lower x w agree = all_last (λ (s : LayerState). R s w) lower x agree
 
 -- the last layer agrees with its file
 pub own_agrees : (lower : List LayerState) (x : LayerState) (w : World) → AgreeAll (lower ++ x ∷ []) w → Agrees x w

@@ -11,8 +11,10 @@ pub mod BridgeLemmas
 pub mod LastLemmas
 pub mod CalledLemmas
 pub mod WritesLemmas
+pub mod ReadyLemmas
 pub mod LowerLemmas
 pub mod CloseLemmas
+pub mod SomeLemmas
 pub mod TiedLemmas
 pub mod CountedLemmas
 pub mod CheckLemmas

@@ -1,5 +1,6 @@
 -- A layer anywhere in a stack, and what is made of the stack by what keeps that layer's map.
 use Rattle.std.proofs.Common.{◌≡◌, ◌⊎◌, ⊎_elim, ℕ, zero, suc, ◌+◌, ◌-◌, ◌<◌, ◌≤◌, Bool, cond, List, [], ◌∷◌, length, get_or, set, refl, sym, ◌∙◌, ap, subst, inl, inr, arith}
+use Rattle.std.specs.List.{AllByRecursion}
 use Rattle.std.proofs.Math.Path.{fun_ext}
 use Rattle.std.proofs.lemmas.Bool.{cases_lt}
 use Rattle.cckd_base.specs.declared.geometry.Geometry.{Geometry}
@@ -10,7 +11,7 @@ use Rattle.cckd_base.specs.Image.{IsHeaded}
 use Rattle.cckd_base.specs.Track.{null_track}
 use Rattle.cckd_base.proofs.HeaderLemmas.{headed_base, headed_shadow}
 use Rattle.cckd_shelf.specs.Events.{Event, file_now}
-use Rattle.cckd_shelf.specs.Seen.{Seen}
+use Rattle.cckd_shelf.specs.Seen.{Seen, Tells}
 use Rattle.cckd_shelf.specs.World.{World, IsSure, file_of}
 use Rattle.cckd_shelf.specs.Outcomes.{EachOutcome, OthersStill, AtEach}
 use Rattle.cckd_shelf.specs.Frame.{SparesOthers, OnlyIn}
@@ -18,9 +19,11 @@ use Rattle.cckd_shelf.proofs.OutcomeLemmas.{now_is_outcome}
 use Rattle.cckd_shelf.proofs.MomentLemmas.{weaker, both}
 use Rattle.cckd_shelf.proofs.StopLemmas.{with_slot, slot_here, slot_other, image_with}
 use Rattle.cckd_layer.specs.Sits.{identifiers_for}
-use Rattle.cckd_layer.specs.Held.{NullBytes, LiesWithin, Keeps, held_in}
+use Rattle.cckd_layer.specs.Held.{NullBytes, AreSame, LiesWithin, Keeps, held_in}
 use Rattle.cckd_layer.specs.Mounted.{LayerState}
-use Rattle.cckd_layer.specs.Writes.{Agrees, KeepsMap, StopsWithin, IsSameFile, map_of as layer_map}
+use Rattle.cckd_layer.specs.Writes.{Agrees, StopsWithin, IsSameFile, map_of as layer_map}
+use Rattle.cckd_layer.specs.Loose.{Tied}
+use Rattle.cckd_layer.proofs.ExcessLemmas.{tied_sure}
 use Rattle.cckd_stack.specs.Layers.{Layer, Stack, base, shadow, layer_count, below}
 use Rattle.cckd_stack.specs.Stops.{Lies}
 use Rattle.cckd_stack.specs.Moments.{EachOpens, Hardening}
@@ -28,11 +31,11 @@ use Rattle.cckd_stack.specs.Opened.{HoldsLayer, StandIn, OpensTo, held_tracks}
 use Rattle.cckd_stack.proofs.CoveredLemmas.{sound_is_covered}
 use Rattle.cckd_stack.specs.Tops.{top_slot}
 use Rattle.cckd_stack.specs.Stacked.{IsLayerIn, AreLayersFrom, map_of, maps_of, map_at, stack_to, stack_by, stack_of}
-use Rattle.cckd_stack.specs.Writes.{AgreeAll, KeepsStack, HasHardening}
+use Rattle.cckd_stack.specs.Writes.{KeepsStackBy, KeepsEach, KeepsLayer, HasHardening}
 use Rattle.cckd_stack.proofs.LayerListLemmas.{all_at, layer_at, map_here, maps_length}
 use Rattle.cckd_stack.proofs.TopLemmas.{stand_agree}
 use Rattle.cckd_stack.proofs.BridgeLemmas.{count_to, held_low, held_high, identifier_in, whole_sound}
-use Rattle.cckd_stack.proofs.LastLemmas.{beside}
+use Rattle.cckd_stack.proofs.LastLemmas.{StaysBeside, beside, tied_beside}
 use Rattle.cckd_stack.proofs.WritesLemmas.{map_low, map_high, same_map}
 
 -- ---- a layer of a stack by its slot
@@ -221,21 +224,22 @@ module _ (null : NullBytes) (g : Geometry) (layers : List LayerState) (n : ℕ) 
 
 -- ---- one layer is written back, wherever it stands
 
-beside_all : (g : Geometry) (at slot : ℕ) (layers : List LayerState) (old new : World) → at < slot → AreLayersFrom g slot layers → IsSure new → SparesOthers at old new → AgreeAll layers old
-    → AgreeAll layers new
-beside_all g at slot [] old new low are sure spares agree = tt
-beside_all g at slot (s ∷ ss) old new low are sure spares agree = (
-  beside s at old new (λ e. absurd (omega (arith, e, low, are.0.slot_is))) sure spares agree.0,
-  beside_all g at (suc slot) ss old new (omega (arith, low)) are.1 sure spares agree.1,
+beside_all : (R : LayerState → World → Type 0) → StaysBeside R → (g : Geometry) (at slot : ℕ) (layers : List LayerState) (old new : World) → at < slot → AreLayersFrom g slot layers → IsSure new
+    → SparesOthers at old new → AllByRecursion (λ (s : LayerState). R s old) layers → AllByRecursion (λ (s : LayerState). R s new) layers
+beside_all R stays g at slot [] old new low are sure spares agree = tt
+beside_all R stays g at slot (s ∷ ss) old new low are sure spares agree = (
+  stays s at old new (λ e. absurd (omega (arith, e, low, are.0.slot_is))) sure spares agree.0,
+  beside_all R stays g at (suc slot) ss old new (omega (arith, low)) are.1 sure spares agree.1,
 )
 
-agree_set : (g : Geometry) (slot n at : ℕ) (layers : List LayerState) (y : LayerState) (old new : World) → at ≡ slot + n → AreLayersFrom g slot layers → IsSure new → SparesOthers at old new
-    → AgreeAll layers old → Agrees y new → AgreeAll (set layers n y) new
-agree_set g slot n at [] y old new e are sure spares agree own = tt
-agree_set g slot zero at (s ∷ ss) y old new e are sure spares agree own = (own, beside_all g at (suc slot) ss old new (omega (arith, e)) are.1 sure spares agree.1)
-agree_set g slot (suc n) at (s ∷ ss) y old new e are sure spares agree own = (
-  beside s at old new (λ k. absurd (omega (arith, k, e, are.0.slot_is))) sure spares agree.0,
-  agree_set g (suc slot) n at ss y old new (omega (arith, e)) are.1 sure spares agree.1 own,
+agree_set : (R : LayerState → World → Type 0) → StaysBeside R → (g : Geometry) (slot n at : ℕ) (layers : List LayerState) (y : LayerState) (old new : World) → at ≡ slot + n
+    → AreLayersFrom g slot layers → IsSure new → SparesOthers at old new → AllByRecursion (λ (s : LayerState). R s old) layers → R y new
+    → AllByRecursion (λ (s : LayerState). R s new) (set layers n y)
+agree_set R stays g slot n at [] y old new e are sure spares agree own = tt
+agree_set R stays g slot zero at (s ∷ ss) y old new e are sure spares agree own = (own, beside_all R stays g at (suc slot) ss old new (omega (arith, e)) are.1 sure spares agree.1)
+agree_set R stays g slot (suc n) at (s ∷ ss) y old new e are sure spares agree own = (
+  stays s at old new (λ k. absurd (omega (arith, k, e, are.0.slot_is))) sure spares agree.0,
+  agree_set R stays g (suc slot) n at ss y old new (omega (arith, e)) are.1 sure spares agree.1 own,
 )
 
 maps_beside : (null : NullBytes) (g : Geometry) (at slot : ℕ) (layers : List LayerState) (old new : World) → at < slot → AreLayersFrom g slot layers → SparesOthers at old new
@@ -258,15 +262,24 @@ maps_set null g slot (suc n) at (s ∷ ss) x y old new e are spares is own =
     ∙ ap (λ (ms : List Layer). map_of null s (file_of old s.slot) ∷ ms) (maps_set null g (suc slot) n at ss x y old new (omega (arith, e)) are.1 spares is own)
 
 -- with the same map: so the stack is the same
-pub any_keeps : (null : NullBytes) (g : Geometry) (layers : List LayerState) (n : ℕ) (x y : LayerState) (old new : Seen) → x ≡ get_or layers n x → n < length layers → AreLayersFrom g 0 layers
-    → IsSameFile x y → OnlyIn x.slot old new → KeepsMap null x y old new → KeepsStack null layers (set layers n y) old new
-any_keeps null g layers n x y old new is low are same others keeps = λ told agree.
+any_by : (R : LayerState → World → Type 0) → StaysBeside R → (null : NullBytes) (g : Geometry) (layers : List LayerState) (n : ℕ) (x y : LayerState) (old new : Seen) → x ≡ get_or layers n x
+    → n < length layers → AreLayersFrom g 0 layers → IsSameFile x y → OnlyIn x.slot old new
+    → (Tells old → R x old.world → IsSure new.world × R y new.world × AreSame (track_count x.tables.layout.geo) (layer_map null y new) (layer_map null x old))
+    → KeepsStackBy R null layers (set layers n y) old new
+any_by R stays null g layers n x y old new is low are same others keeps = λ told agree.
     let place : IsLayerIn g n x = subst (IsLayerIn g n) (sym is) (layer_at g n 0 layers n x (omega arith) are low) in
-    let own : Agrees x old.world = subst (λ (s : LayerState). Agrees s old.world) (sym is) (all_at (λ (s : LayerState). Agrees s old.world) layers n x agree low) in
+    let own : R x old.world = subst (λ (s : LayerState). R s old.world) (sym is) (all_at (λ (s : LayerState). R s old.world) layers n x agree low) in
     let spares : SparesOthers n old.world new.world = subst (λ (k : ℕ). SparesOthers k old.world new.world) place.slot_is (others told) in
     let again = keeps told own in
-    let map : map_of null y (file_of new.world y.slot) ≡ map_of null x (file_of old.world x.slot) = same_map null x y (file_of old.world x.slot) (file_of new.world y.slot) same.layout again.same in
+    let map : map_of null y (file_of new.world y.slot) ≡ map_of null x (file_of old.world x.slot) = same_map null x y (file_of old.world x.slot) (file_of new.world y.slot) same.layout again.2 in
     record {
-      agree = agree_set g 0 n n layers y old.world new.world (omega arith) are again.agrees.stands.sure spares agree again.agrees;
+      agree = agree_set R stays g 0 n n layers y old.world new.world (omega arith) are again.0 spares agree again.1;
       are = ap stack_by (maps_set null g 0 n n layers x y old.world new.world (omega arith) are spares is map);
     }
+
+pub any_keeps : (null : NullBytes) (g : Geometry) (layers : List LayerState) (n : ℕ) (x y : LayerState) (old new : Seen) → x ≡ get_or layers n x → n < length layers → AreLayersFrom g 0 layers
+    → IsSameFile x y → OnlyIn x.slot old new → KeepsLayer null x y old new → KeepsEach null layers (set layers n y) old new
+any_keeps null g layers n x y old new is low are same others keeps = record {
+  agreed = any_by Agrees beside null g layers n x y old new is low are same others (λ told a. let k = keeps.agreed told a in (k.agrees.stands.sure, k.agrees, k.same));
+  tied = any_by Tied tied_beside null g layers n x y old new is low are same others (λ told h. let k = keeps.tied told h in (tied_sure y new.world k.tied, k.tied, k.same));
+}

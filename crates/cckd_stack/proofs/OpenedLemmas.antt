@@ -1,9 +1,9 @@
 -- Files open to one stack at most, and what mounting says of it.
-use Rattle.std.proofs.Common.{◌≡◌, ⊎_elim, ℕ, zero, suc, ◌+◌, ◌<◌, ◌≤◌, true, false, List, [], ◌∷◌, length, get_or, refl, sym, ◌∙◌, ap, subst, arith}
+use Rattle.std.proofs.Common.{◌≡◌, ⊎_elim, ℕ, zero, suc, ◌+◌, ◌<◌, ◌≤◌, true, false, List, [], ◌∷◌, length, refl, sym, ◌∙◌, ap, subst, arith}
 use Rattle.std.proofs.lemmas.Bool.{cases_lt, false≢true}
 use Rattle.cckd_base.specs.declared.geometry.Geometry.{Geometry}
 use Rattle.cckd_base.specs.declared.geometry.Layout.{Layout}
-use Rattle.cckd_base.specs.Header.{base_identifier, shadow_identifier, headers_of, layout_of, is_present}
+use Rattle.cckd_base.specs.Header.{base_identifier, shadow_identifier, is_present}
 use Rattle.cckd_shelf.specs.World.{World, file_of}
 use Rattle.cckd_shelf.specs.Outcomes.{EachOutcome}
 use Rattle.cckd_shelf.proofs.OutcomeLemmas.{sync_step}
@@ -12,7 +12,7 @@ use Rattle.cckd_layer.specs.Mounted.{LayerState}
 use Rattle.cckd_stack.specs.Layers.{Layer, Stack, base, shadow, layer_count}
 use Rattle.cckd_stack.specs.Opened.{HoldsLayer, StandIn, Opens, held_tracks}
 use Rattle.cckd_stack.specs.Stacked.{StackState}
-use Rattle.cckd_stack.specs.Mounting.{IsRow, IsMounted, AreOfFrom, after_syncs}
+use Rattle.cckd_stack.specs.Mounting.{IsMounted, AreOfFrom, after_syncs}
 use Rattle.cckd_stack.specs.Writes.{AreSnugFrom, AreAbsentAbove}
 use Rattle.cckd_stack.specs.Called.{AreSnug, StayAbsent}
 use Rattle.cckd_stack.proofs.FirstLemmas.{headed_present}

@@ -1,5 +1,5 @@
 -- What a call that writes makes of a stack, from what it makes of the last layer.
-use Rattle.std.proofs.Common.{◌≡◌, ⊎_elim, ℕ, suc, ◌<◌, ◌≤◌, ◌==◌, cond, Bool, true, false, List, [], ◌∷◌, ◌++◌, length, take, get_or, set, Option, Some, None, Result, Ok, Err, OnOk, OnErr, IfErr, refl, sym, ◌∙◌, ap, subst, inl, inr, arith}
+use Rattle.std.proofs.Common.{◌≡◌, ⊎_elim, ℕ, suc, ◌<◌, ◌≤◌, ◌==◌, cond, Bool, true, false, List, [], ◌∷◌, ◌++◌, length, take, get_or, set, Option, Some, None, Result, Ok, Err, OnOk, IfErr, refl, sym, ◌∙◌, ap, subst, inl, inr, arith}
 use Rattle.std.proofs.Math.Path.{fun_ext}
 use Rattle.std.proofs.lemmas.List.{length-append}
 use Rattle.std.proofs.lemmas.Bool.{false≢true, cases_lt, cases_Bool, lt-ltb, le-ltb, eqb-true, eqb-false, cond-true, cond-false}
@@ -13,7 +13,7 @@ use Rattle.cckd_base.specs.Image.{IsHeaded}
 use Rattle.cckd_base.proofs.HeaderLemmas.{headed_base, headed_shadow}
 use Rattle.cckd_shelf.specs.Events.{Event}
 use Rattle.cckd_shelf.specs.Seen.{Seen, Tells, Stays}
-use Rattle.cckd_shelf.specs.World.{World, file_of}
+use Rattle.cckd_shelf.specs.World.{World, IsSure, file_of}
 use Rattle.cckd_shelf.specs.Outcomes.{EachOutcome, OthersStill, AtEach}
 use Rattle.cckd_shelf.specs.Frame.{OnlyIn}
 use Rattle.cckd_shelf.proofs.OutcomeLemmas.{now_is_outcome}
@@ -24,6 +24,8 @@ use Rattle.cckd_base.specs.declared.fault.TrackFault.{TrackFault}
 use Rattle.cckd_layer.specs.Storing.{IsWriteRefusal, IsHarmless}
 use Rattle.cckd_layer.specs.Mounted.{LayerState}
 use Rattle.cckd_layer.specs.Writes.{Agrees, KeepsMap, StopsWithin, StopHolds, StoresIn, IsSameLayer, IsSameFile, IsOutside, map_of as layer_map, is_broken_by as is_layer_broken_by}
+use Rattle.cckd_layer.specs.Loose.{Tied, TiedIn}
+use Rattle.cckd_layer.proofs.ExcessLemmas.{tied_sure}
 use Rattle.cckd_tables.specs.Staging.{new_entry}
 use Rattle.cckd_stack.specs.Layers.{Layer, Stack, base, shadow, top, with_top, with_track}
 use Rattle.cckd_stack.specs.Answers.{Pair}
@@ -31,12 +33,12 @@ use Rattle.cckd_stack.specs.Stops.{TrackLies, Lies}
 use Rattle.cckd_stack.specs.Moments.{EachOpens, Hardening}
 use Rattle.cckd_stack.specs.Tops.{top_slot, top_identifier, HoldsLies, laters_of}
 use Rattle.cckd_stack.specs.Stacked.{AreLayersFrom, AreWhole, map_of}
-use Rattle.cckd_stack.specs.Writes.{AreStack, EndsWith, ChangesLast, KeepsStack, StoresOnTop, HasHardening, StopsLie, StopsSettle, IsWriteRefused, stack_now, with_pair_on_top, all_hardened, with_written}
+use Rattle.cckd_stack.specs.Writes.{AreStackBy, AreTied, EndsWith, ChangesLast, KeepsStackBy, KeepsStack, KeepsEach, StoresOnTopBy, StoresOnTop, StoresEach, IsTiedAgain, KeepsLayer, HasHardening, StopsLie, StopsSettle, IsWriteRefused, stack_now, with_pair_on_top, all_hardened, with_written}
 use Rattle.cckd_stack.proofs.HistoryLemmas.{lies_more, lies_same, lies_put}
 use Rattle.cckd_stack.proofs.CalledLemmas.{opens_weaker}
 use Rattle.cckd_stack.proofs.TopLemmas.{same_slot, with_own, enters, leaves_each, settles}
 use Rattle.cckd_stack.proofs.BridgeLemmas.{within_track, keeps_holds, holds_keeps}
-use Rattle.cckd_stack.proofs.LastLemmas.{last_is, last_set, changes_last, layers_again, whole_again, own_layer, own_agrees, top_of_layers, slot_of_layers, last_changed}
+use Rattle.cckd_stack.proofs.LastLemmas.{last_is, last_set, changes_last, layers_again, whole_again, own_layer, own_agrees, own_by, StaysBeside, beside, tied_beside, top_of_layers, slot_of_layers, last_changed}
 
 -- ---- what a file begins with
 
@@ -105,21 +107,32 @@ module _ (null : NullBytes) (g : Geometry) (lower : List LayerState) (x y : Laye
         ap (with_top s) (sym (top_of_layers null (file_of old.world) lower x)) ∙ with_own s
 
     -- with the same map: so the stack is the same
-    pub keeps_stack : KeepsMap null x y old new → KeepsStack null (lower ++ x ∷ []) (lower ++ y ∷ []) old new
-    keeps_stack keeps = λ told agree.
-        let again = keeps told (own_agrees lower x old.world agree) in
+    pub keeps_by : (R : LayerState → World → Type 0) → StaysBeside R
+        → (Tells old → R x old.world → IsSure new.world × R y new.world × AreSame (track_count x.tables.layout.geo) (layer_map null y new) (layer_map null x old))
+        → KeepsStackBy R null (lower ++ x ∷ []) (lower ++ y ∷ []) old new
+    keeps_by R stays keeps = λ told agree.
+        let again = keeps told (own_by R lower x old.world agree) in
         let count = track_count x.tables.layout.geo in
         let was = held null x.tables.layout x.tables.stages (file_of old.world x.slot) in
         let map : map_of null y (file_of new.world y.slot) ≡ map_of null x (file_of old.world x.slot) =
-        at_slot ∙ same_map null x y (file_of old.world x.slot) (file_of new.world x.slot) same.layout (held_at x.slot y.slot same.slot (λ (m : Layer). AreSame count m was) again.same) in
-        subst (λ (s : Stack). AreStack null s (lower ++ y ∷ []) new) top_was
-        (last_changed null g lower x y old new are x.slot refl others (map_of null x (file_of old.world x.slot)) told agree again.agrees map)
+        at_slot ∙ same_map null x y (file_of old.world x.slot) (file_of new.world x.slot) same.layout (held_at x.slot y.slot same.slot (λ (m : Layer). AreSame count m was) again.2) in
+        subst (λ (s : Stack). AreStackBy R null s (lower ++ y ∷ []) new) top_was
+        (last_changed null g lower x y old new are x.slot refl others R stays (map_of null x (file_of old.world x.slot)) told again.0 agree again.1 map)
+
+    pub keeps_stack : KeepsMap null x y old new → KeepsStack null (lower ++ x ∷ []) (lower ++ y ∷ []) old new
+    keeps_stack keeps = keeps_by Agrees beside (λ told a. let k = keeps told a in (k.agrees.stands.sure, k.agrees, k.same))
+
+    pub keeps_each : KeepsLayer null x y old new → KeepsEach null (lower ++ x ∷ []) (lower ++ y ∷ []) old new
+    keeps_each keeps = record {
+      agreed = keeps_stack keeps.agreed;
+      tied = keeps_by Tied tied_beside (λ told h. let k = keeps.tied told h in (tied_sure y new.world k.tied, k.tied, k.same));
+    }
 
     -- with other bytes for a track: so the stack has them
-    pub stores_on_top : (t : ℕ) (bytes : List ℕ) → t < track_count g → (Tells old → Agrees x old.world → StoresIn [] null x y t (Some bytes) old new)
-        → StoresOnTop null (t, bytes) (lower ++ x ∷ []) (lower ++ y ∷ []) old new
-    stores_on_top t bytes device stores = λ told agree.
-        let h = stores told (own_agrees lower x old.world agree) in
+    pub stores_by : (R : LayerState → World → Type 0) → StaysBeside R → (Agrees y new.world → R y new.world) → (t : ℕ) (bytes : List ℕ) → t < track_count g
+        → (Tells old → R x old.world → StoresIn [] null x y t (Some bytes) old new) → StoresOnTopBy R null (t, bytes) (lower ++ x ∷ []) (lower ++ y ∷ []) old new
+    stores_by R stays ties t bytes device stores = λ told agree.
+        let h = stores told (own_by R lower x old.world agree) in
         let count = track_count x.tables.layout.geo in
         let low : t < count = subst (λ (k : Geometry). t < track_count k) (sym (own_layer g lower x are).shape) device in
         let was = held null x.tables.layout x.tables.stages (file_of old.world x.slot) in
@@ -129,7 +142,18 @@ module _ (null : NullBytes) (g : Geometry) (lower : List LayerState) (x y : Laye
         ∙ (stored_map null x y (file_of old.world x.slot) (file_of new.world x.slot) same.layout t bytes low
         (held_at x.slot y.slot same.slot (λ (m : Layer). Stores count t (Some bytes) was m) h.stores)
         ∙ ap (λ (m : Layer). with_track m t bytes) top_is) in
-        last_changed null g lower x y old new are x.slot refl others (with_track (top (stack_now null (lower ++ x ∷ []) old)) t bytes) told agree h.agrees map
+        last_changed null g lower x y old new are x.slot refl others R stays (with_track (top (stack_now null (lower ++ x ∷ []) old)) t bytes) told h.agrees.stands.sure agree (ties h.agrees) map
+
+    pub stores_on_top : (t : ℕ) (bytes : List ℕ) → t < track_count g → (Tells old → Agrees x old.world → StoresIn [] null x y t (Some bytes) old new)
+        → StoresOnTop null (t, bytes) (lower ++ x ∷ []) (lower ++ y ∷ []) old new
+    stores_on_top t bytes device stores = stores_by Agrees beside (λ a. a) t bytes device stores
+
+    pub stores_each : (t : ℕ) (bytes : List ℕ) → t < track_count g → (Tells old → Tied x old.world → StoresIn [] null x y t (Some bytes) old new)
+        → StoresEach null (t, bytes) (lower ++ x ∷ []) (lower ++ y ∷ []) old new
+    stores_each t bytes device stores = record {
+      agreed = stores_on_top t bytes device (λ told a. stores told (inl a));
+      tied = stores_by Tied tied_beside (λ a. inl a) t bytes device stores;
+    }
 
 -- ---- stops
 
@@ -250,6 +274,17 @@ whole_keeps A null x y old new (Err fault.ReadFault) ok outside read whole =
 whole_keeps A null x y old new (Err fault.WriteFault) ok outside read whole = absurd (false≢true (sym whole))
 whole_keeps A null x y old new (Err fault.SyncFault) ok outside read whole = absurd (false≢true (sym whole))
 
+-- a layer that was neither marked nor hardened anew keeps what ties it to its file
+pub still_ties : (null : NullBytes) (x y : LayerState) (old new : Seen) → KeepsMap null x y old new → (x.marked ≡ false → x.hardened ≡ true → (y ≡ x) × (new ≡ old)) → KeepsLayer null x y old new
+still_ties null x y old new keeps still = record { agreed = keeps; tied = λ told tied. by told tied }
+  where
+    by : Tells old → Tied x old.world → IsTiedAgain null x y old new
+    by told (inl a) = let k = keeps told a in record { tied = inl k.agrees; same = k.same }
+    by told (inr h) =
+        let e = still h.marked h.hardened in
+        subst (λ (s : LayerState). IsTiedAgain null x s old new) (sym e.0)
+        (subst (λ (b : Seen). IsTiedAgain null x x old b) (sym e.1) (record { tied = inr h; same = record { each = λ t low. refl } }))
+
 -- ---- the last of some layers was written back
 
 module _ (layers : List LayerState) (n : ℕ) (x y : LayerState) (is : x ≡ get_or layers n x) (end : suc n ≡ length layers) where
@@ -281,6 +316,10 @@ module _ (layers : List LayerState) (n : ℕ) (x y : LayerState) (is : x ≡ get
   pub set_back : y ≡ x → set layers n y ≡ layers
   set_back same = last_set layers n y end ∙ (ap (λ (z : LayerState). take n layers ++ z ∷ []) same ∙ sym were)
 
+  -- the last of layers that are tied to their files is
+  pub set_tied : (s : Seen) → (Tells s → IsSure s.world → AreTied layers s.world) → TiedIn x s
+  set_tied s tied = λ told sure. own_by Tied (take n layers) x s.world (subst (λ (ls : List LayerState). AreTied ls s.world) were (tied told sure))
+
   -- why a write is refused
   pub set_refusal : {A : Type 0} (null : NullBytes) (found : Option TrackFault) (old new : Seen) (t : ℕ) (bytes : List ℕ) (result : Result A LayerFault) → IfErr result (IsWriteRefusal null found x y old new t bytes)
       → IfErr result (IsWriteRefused null found layers (set layers n y) old new t bytes)
@@ -302,27 +341,26 @@ module _ (layers : List LayerState) (n : ℕ) (x y : LayerState) (is : x ≡ get
     pub set_keeps : KeepsMap null x y old new → KeepsStack null layers (set layers n y) old new
     set_keeps keeps = both_lists (λ was next. KeepsStack null was next old new) (keeps_stack null g (take n layers) x y old new are_split same others keeps)
 
-    pub set_stores : (t : ℕ) (bytes : List ℕ) → t < track_count g → (Tells old → Agrees x old.world → StoresIn [] null x y t (Some bytes) old new)
-        → StoresOnTop null (t, bytes) layers (set layers n y) old new
+    pub set_keeps_each : KeepsLayer null x y old new → KeepsEach null layers (set layers n y) old new
+    set_keeps_each keeps = both_lists (λ was next. KeepsEach null was next old new) (keeps_each null g (take n layers) x y old new are_split same others keeps)
+
+    pub set_stores : (t : ℕ) (bytes : List ℕ) → t < track_count g → (Tells old → Tied x old.world → StoresIn [] null x y t (Some bytes) old new)
+        → StoresEach null (t, bytes) layers (set layers n y) old new
     set_stores t bytes device stores =
-        both_lists (λ was next. StoresOnTop null (t, bytes) was next old new) (stores_on_top null g (take n layers) x y old new are_split same others t bytes device stores)
+        both_lists (λ was next. StoresEach null (t, bytes) was next old new) (stores_each null g (take n layers) x y old new are_split same others t bytes device stores)
 
     pub set_stores_ok : {A B : Type 0} (result : Result A B) (t : ℕ) (bytes : List ℕ) → t < track_count g
-        → OnOk result (Tells old → Agrees x old.world → StoresIn [] null x y t (Some bytes) old new) → OnOk result (StoresOnTop null (t, bytes) layers (set layers n y) old new)
+        → OnOk result (Tells old → Tied x old.world → StoresIn [] null x y t (Some bytes) old new) → OnOk result (StoresEach null (t, bytes) layers (set layers n y) old new)
     set_stores_ok (Ok a) t bytes device stores = set_stores t bytes device stores
     set_stores_ok (Err why) t bytes device stores = tt
 
     -- a refusal that doesn't break keeps the stack
-    pub set_keeps_err : {A B : Type 0} (result : Result A B) (P : Type 0) → OnErr result (P → KeepsMap null x y old new) → OnErr result (P → KeepsStack null layers (set layers n y) old new)
-    set_keeps_err (Ok a) P kept = tt
-    set_keeps_err (Err why) P kept = λ p. set_keeps (kept p)
-
-    pub set_keeps_harmless : {A : Type 0} (result : Result A LayerFault) → is_layer_broken_by result ≡ false → IfErr result (λ why. IsHarmless why → KeepsMap null x y old new)
-        → IfErr result (λ why. KeepsStack null layers (set layers n y) old new)
+    pub set_keeps_harmless : {A : Type 0} (result : Result A LayerFault) → is_layer_broken_by result ≡ false → IfErr result (λ why. IsHarmless why → KeepsLayer null x y old new)
+        → IfErr result (λ why. KeepsEach null layers (set layers n y) old new)
     set_keeps_harmless (Ok a) whole kept = tt
-    set_keeps_harmless (Err (fault.Track why)) whole kept = set_keeps (kept tt)
-    set_keeps_harmless (Err (fault.Full full)) whole kept = set_keeps (kept tt)
-    set_keeps_harmless (Err fault.ReadFault) whole kept = set_keeps (kept tt)
+    set_keeps_harmless (Err (fault.Track why)) whole kept = set_keeps_each (kept tt)
+    set_keeps_harmless (Err (fault.Full full)) whole kept = set_keeps_each (kept tt)
+    set_keeps_harmless (Err fault.ReadFault) whole kept = set_keeps_each (kept tt)
     set_keeps_harmless (Err fault.WriteFault) whole kept = absurd (false≢true (sym whole))
     set_keeps_harmless (Err fault.SyncFault) whole kept = absurd (false≢true (sym whole))
 

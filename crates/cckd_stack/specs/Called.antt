@@ -4,7 +4,7 @@ use Rattle.cckd_base.specs.Header.{headers_of, layout_of, is_present}
 use Rattle.cckd_base.specs.Image.{IsSnug}
 use Rattle.cckd_base.specs.Track.{null_track}
 use Rattle.cckd_shelf.specs.Events.{Event, file_now}
-use Rattle.cckd_shelf.specs.World.{World, file_of}
+use Rattle.cckd_shelf.specs.World.{World, IsSure, file_of}
 use Rattle.cckd_shelf.specs.Outcomes.{EachOutcome}
 use Rattle.cckd_shelf.specs.Seen.{Seen, Tells}
 use Rattle.cckd_stack.specs.Layers.{Stack}
@@ -15,10 +15,10 @@ use Rattle.cckd_stack.specs.Writes.{AgreeAll, AreTied}
 abbrev pub stack_in : StackState → List Event → Stack
 stack_in s events = stack_of null_track s.layers (file_now events)
 
--- it can make calls: no operation failed, and each layer is tied to the file of its slot, as far as that is told
+-- it can make calls: it isn't broken, and each layer is tied to the file of its slot, as far as that is told and no operation failed half way
 pub record CanCall (s : StackState) (now : Seen) : Type 0 where
   pub whole : s.broken ≡ false
-  pub tied : Tells now → AreTied s.layers now.world
+  pub tied : Tells now → IsSure now.world → AreTied s.layers now.world
 
 -- the files that are there are snug
 abbrev pub AreSnug : (ℕ → List ℕ) → Type 0

@@ -19,9 +19,11 @@ use Rattle.cckd_shelf.specs.Seen.{Seen, Tells}
 use Rattle.cckd_shelf.specs.World.{World, file_of}
 use Rattle.cckd_shelf.specs.Events.{name_of, output_of}
 use Rattle.cckd_shelf.specs.Outcomes.{IsOutcome, EachOutcome, AtEach}
-use Rattle.cckd_layer.specs.Held.{NullBytes}
+use Rattle.cckd_base.specs.Geometry.{track_count}
+use Rattle.cckd_layer.specs.Held.{NullBytes, AreSame}
 use Rattle.cckd_layer.specs.Mounted.{LayerState}
-use Rattle.cckd_layer.specs.Writes.{Agrees, IsSameFile, StaysClosed}
+use Rattle.cckd_layer.specs.Writes.{Agrees, KeepsMap, IsSameFile, StaysClosed, map_of}
+use Rattle.cckd_layer.specs.Loose.{Tied}
 use Rattle.cckd_layer.specs.Storing.{IsWriteRefusal}
 use Rattle.cckd_base.specs.declared.fault.TrackFault.{TrackFault}
 use Rattle.cckd_stack.specs.Layers.{Stack, top, with_top, with_track}
@@ -36,31 +38,68 @@ use Rattle.cckd_stack.specs.Stacked.{stack_of}
 abbrev pub AgreeAll : List LayerState → World → Type 0
 AgreeAll layers w = AllByRecursion (λ layer. Agrees layer w) layers
 
--- each layer is tied to the file of its slot, whose words and tables it has, so that it is told what its tracks are
+-- each layer is tied to the file of its slot: it agrees with it, or is as it was mounted from it
 abbrev pub AreTied : List LayerState → World → Type 0
-AreTied layers w = AgreeAll layers w
+AreTied layers w = AllByRecursion (λ layer. Tied layer w) layers
 
 -- the stack that the layers are now
 abbrev pub stack_now : NullBytes → List LayerState → Seen → Stack
 stack_now null layers s = stack_of null layers (file_of s.world)
 
--- the layers agree with their files, and are this stack
-pub record AreStack (null : NullBytes) (stack : Stack) (layers : List LayerState) (s : Seen) : Type 0 where
-  pub agree : AgreeAll layers s.world
+-- the layers have this to do with their files, and are this stack
+pub record AreStackBy (R : LayerState → World → Type 0) (null : NullBytes) (stack : Stack) (layers : List LayerState) (s : Seen) : Type 0 where
+  pub agree : AllByRecursion (λ layer. R layer s.world) layers
   pub are : stack_now null layers s ≡ stack
+
+-- the layers agree with their files, and are this stack
+abbrev pub AreStack : NullBytes → Stack → List LayerState → Seen → Type 0
+AreStack = AreStackBy Agrees
+
+-- where the layers had this to do with their files, they have it again, and are the same stack
+abbrev pub KeepsStackBy : (LayerState → World → Type 0) → NullBytes → List LayerState → List LayerState → Seen → Seen → Type 0
+KeepsStackBy R null layers next old new =
+    Tells old → AllByRecursion (λ layer. R layer old.world) layers → AreStackBy R null (stack_now null layers old) next new
 
 -- where the layers agreed with their files, they agree again, and are the same stack
 abbrev pub KeepsStack : NullBytes → List LayerState → List LayerState → Seen → Seen → Type 0
-KeepsStack null layers next old new = Tells old → AgreeAll layers old.world → AreStack null (stack_now null layers old) next new
+KeepsStack = KeepsStackBy Agrees
+
+-- so it is where they agreed, and where they were tied to them
+pub record KeepsEach (null : NullBytes) (layers next : List LayerState) (old new : Seen) : Type 0 where
+  pub agreed : KeepsStack null layers next old new
+  pub tied : KeepsStackBy Tied null layers next old new
 
 -- the stack with these bytes for a track in its last layer
 abbrev pub with_pair_on_top : Stack → Pair → Stack
 with_pair_on_top s p = with_top s (with_track (top s) p.0 p.1)
 
+-- where the layers had this to do with their files, they have it again, and are the stack with these bytes for a track in its last layer
+abbrev pub StoresOnTopBy : (LayerState → World → Type 0) → NullBytes → Pair → List LayerState → List LayerState → Seen → Seen → Type 0
+StoresOnTopBy R null p layers next old new =
+    Tells old → AllByRecursion (λ layer. R layer old.world) layers → AreStackBy R null (with_pair_on_top (stack_now null layers old) p) next new
+
 -- where the layers agreed with their files, they agree again, and are the stack with these bytes for a track in its last layer
 abbrev pub StoresOnTop : NullBytes → Pair → List LayerState → List LayerState → Seen → Seen → Type 0
-StoresOnTop null p layers next old new =
-    Tells old → AgreeAll layers old.world → AreStack null (with_pair_on_top (stack_now null layers old) p) next new
+StoresOnTop = StoresOnTopBy Agrees
+
+-- so it is where they agreed, and where they were tied to them
+pub record StoresEach (null : NullBytes) (p : Pair) (layers next : List LayerState) (old new : Seen) : Type 0 where
+  pub agreed : StoresOnTop null p layers next old new
+  pub tied : StoresOnTopBy Tied null p layers next old new
+
+-- a layer is tied to its file, and has the bytes of each track that another one had
+pub record IsTiedAgain (null : NullBytes) (s next : LayerState) (old new : Seen) : Type 0 where
+  pub tied : Tied next new.world
+  pub same : AreSame (track_count s.tables.layout.geo) (map_of null next new) (map_of null s old)
+
+-- so it is where it was tied before
+abbrev pub KeepsTied : NullBytes → LayerState → LayerState → Seen → Seen → Type 0
+KeepsTied null s next old new = Tells old → Tied s old.world → IsTiedAgain null s next old new
+
+-- where it agreed with its file it agrees again, where it was tied to it it is tied again, and it has the same bytes
+pub record KeepsLayer (null : NullBytes) (s next : LayerState) (old new : Seen) : Type 0 where
+  pub agreed : KeepsMap null s next old new
+  pub tied : KeepsTied null s next old new
 
 -- of the last of the layers this holds
 pub record EndsWith (P : LayerState → Type 0) (layers : List LayerState) : Type 0 where

@@ -3,7 +3,7 @@ ghost use Rattle.std.specs.Prelude.{◌≡◌, ◌≤◌, length, false, IsOk, O
 ghost use Rattle.cckd_shelf.specs.Seen.{seen};
 ghost use Rattle.cckd_layer.specs.Writes.{IsOutside, CountsLayer, is_broken_by as is_layer_broken_by};
 ghost use Rattle.cckd_stack.specs.Stacked.{AreLayersFrom, AreWhole, CanReadAll, InLayer, CountsFault};
-ghost use Rattle.cckd_stack.specs.Writes.{KeepsStack, AreUnchanged, OnlyInChanged, ClosesChanged, AreSameFiles, StopsLie, StopsSettle, is_broken_by};
+ghost use Rattle.cckd_stack.specs.Writes.{KeepsEach, AreUnchanged, OnlyInChanged, ClosesChanged, AreSameFiles, StopsLie, StopsSettle, is_broken_by};
 
 use crate::hardening::breaks;
 use crate::stack::Stack;
@@ -24,7 +24,7 @@ fn close_each<U: Unit, T: Stage>(
     ensures closed { OnOk result (ClosesChanged layers.old (seen T.Shows stage.old) (seen T.Shows stage.new)) }
     ensures unchanged { OnOk result (AreUnchanged layers.new) }
     ensures settles { OnOk result (StopsSettle U.null_bytes geo.now layers.old (seen T.Shows stage.old) (seen T.Shows stage.new)) }
-    ensures map { is_layer_broken_by result ≡ false → KeepsStack U.null_bytes layers.old layers.new (seen T.Shows stage.old) (seen T.Shows stage.new) }
+    ensures map { is_layer_broken_by result ≡ false → KeepsEach U.null_bytes layers.old layers.new (seen T.Shows stage.old) (seen T.Shows stage.new) }
     ensures still { AreUnchanged layers.old → IsOk result × (layers.new ≡ layers.old) × (seen T.Shows stage.new ≡ seen T.Shows stage.old) }
     ensures files { AreSameFiles layers.old layers.new }
     ensures layers { AreLayersFrom geo.now 0 layers.new }
@@ -55,7 +55,7 @@ impl<U: Unit> Stack<U> {
         ensures closed { OnOk result (ClosesChanged self.old.layers (seen T.Shows stage.old) (seen T.Shows stage.new)) }
         ensures unchanged { OnOk result (AreUnchanged self.new.layers) }
         ensures settles { OnOk result (StopsSettle U.null_bytes self.old.geometry self.old.layers (seen T.Shows stage.old) (seen T.Shows stage.new)) }
-        ensures map { self.new.broken ≡ false → KeepsStack U.null_bytes self.old.layers self.new.layers (seen T.Shows stage.old) (seen T.Shows stage.new) }
+        ensures map { self.new.broken ≡ false → KeepsEach U.null_bytes self.old.layers self.new.layers (seen T.Shows stage.old) (seen T.Shows stage.new) }
         ensures still { AreUnchanged self.old.layers → IsOk result × (self.new ≡ self.old) × (seen T.Shows stage.new ≡ seen T.Shows stage.old) }
         ensures files { AreSameFiles self.old.layers self.new.layers }
         ensures geometry { self.new.geometry ≡ self.old.geometry }

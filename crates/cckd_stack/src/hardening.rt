@@ -4,7 +4,7 @@ ghost use Rattle.cckd_shelf.specs.Seen.{seen, Stays};
 ghost use Rattle.cckd_shelf.specs.Frame.{OnlyIn};
 ghost use Rattle.cckd_layer.specs.Writes.{IsSameLayer, IsOutside, CountsLayer, is_broken_by as is_layer_broken_by};
 ghost use Rattle.cckd_stack.specs.Stacked.{AreLayersFrom, AreWhole, CanReadAll, InLayer, CountsFault};
-ghost use Rattle.cckd_stack.specs.Writes.{KeepsStack, IsHardenedLast, ChangesLast, StopsLie, StopsSettle, breaks_layer, is_broken_by};
+ghost use Rattle.cckd_stack.specs.Writes.{KeepsEach, IsHardenedLast, ChangesLast, StopsLie, StopsSettle, breaks_layer, is_broken_by};
 
 use crate::stack::Stack;
 use cckd_base::{Geometry, LayerFault, StackFault, Unit};
@@ -23,7 +23,7 @@ fn harden_last<U: Unit, T: Stage>(
     requires can_read { CanReadAll layers.old (seen T.Shows stage.old) }
     ensures settles { OnOk result (StopsSettle U.null_bytes geo.now layers.old (seen T.Shows stage.old) (seen T.Shows stage.new)) }
     ensures hardened { OnOk result (IsHardenedLast layers.new) }
-    ensures map { is_layer_broken_by result ≡ false → KeepsStack U.null_bytes layers.old layers.new (seen T.Shows stage.old) (seen T.Shows stage.new) }
+    ensures map { is_layer_broken_by result ≡ false → KeepsEach U.null_bytes layers.old layers.new (seen T.Shows stage.old) (seen T.Shows stage.new) }
     ensures last { ChangesLast IsSameLayer layers.old layers.new }
     ensures layers { AreLayersFrom geo.now 0 layers.new }
     ensures still { IsHardenedLast layers.old → IsOk result × (layers.new ≡ layers.old) × (seen T.Shows stage.new ≡ seen T.Shows stage.old) }
@@ -55,7 +55,7 @@ impl<U: Unit> Stack<U> {
         // At Ok a stop leaves exactly the stack; and unless the call breaks, the stack is the same.
         ensures settles { OnOk result (StopsSettle U.null_bytes self.old.geometry self.old.layers (seen T.Shows stage.old) (seen T.Shows stage.new)) }
         ensures hardened { OnOk result (IsHardenedLast self.new.layers) }
-        ensures map { self.new.broken ≡ false → KeepsStack U.null_bytes self.old.layers self.new.layers (seen T.Shows stage.old) (seen T.Shows stage.new) }
+        ensures map { self.new.broken ≡ false → KeepsEach U.null_bytes self.old.layers self.new.layers (seen T.Shows stage.old) (seen T.Shows stage.new) }
         ensures last { ChangesLast IsSameLayer self.old.layers self.new.layers }
         ensures geometry { self.new.geometry ≡ self.old.geometry }
         ensures still { IsHardenedLast self.old.layers → IsOk result × (self.new ≡ self.old) × (seen T.Shows stage.new ≡ seen T.Shows stage.old) }

@@ -27,7 +27,7 @@ ghost use Rattle.cckd_stack.specs.Called.{AreSnug, StayAbsent};
 ghost use Rattle.cckd_stack.specs.Tops.{HoldsLies, laters_of};
 ghost use Rattle.cckd_stack.specs.Stacked.{StackState, IsStack, AreLayersFrom, CanReadAll, OnlyCaches, InLayer, stack_of};
 ghost use Rattle.cckd_stack.specs.Mounting.{IsMounted, AreFreshFrom, StandFrom, after_syncs};
-ghost use Rattle.cckd_stack.specs.Writes.{AgreeAll, AreTied, AreUnchanged, IsHardenedLast, AreSnugFrom, AreAbsentAbove, KeepsStack, StoresOnTop, HasHardening, StopsLie, StopsSettle, with_pair_on_top, all_mounted, all_hardened, with_written, reply_by, is_broken_by, OnlyHardens, asks};
+ghost use Rattle.cckd_stack.specs.Writes.{AgreeAll, AreTied, AreUnchanged, IsHardenedLast, AreSnugFrom, AreAbsentAbove, KeepsStack, KeepsEach, StoresOnTop, HasHardening, StopsLie, StopsSettle, with_pair_on_top, all_mounted, all_hardened, with_written, reply_by, is_broken_by, OnlyHardens, asks};
 
 /// The files open to the stack that is mounted of them.
 pub fn mounted_opens()
@@ -103,20 +103,21 @@ pub fn writes_are_answered()
         → stack_after_call g s r said ≡ with_pair_on_top s p }
 {}
 
-/// Layers of which only cached tables changed agree with their files as before, and are the same stack; and where none was
-/// changed the last one is hardened.
+/// Layers of which only cached tables changed agree with their files as before, or are tied to them as before, and are the same stack;
+/// and where none was changed the last one is hardened.
 pub fn caches_keep_stacks()
     ensures keeps { (null : NullBytes) (layers next : List LayerState) (old new : Seen) → OnlyCaches layers next → (Tells old → Tells new) → Stays old new → CanReadAll next new
-        → KeepsStack null layers next old new }
+        → KeepsEach null layers next old new }
     ensures unchanged { (layers next : List LayerState) → OnlyCaches layers next → AreUnchanged layers → AreUnchanged next }
     ensures hardened { (layers : List LayerState) → 1 ≤ length layers → AreUnchanged layers → IsHardenedLast layers }
     ensures sure { (layers : List LayerState) (w : World) → 1 ≤ length layers → AreTied layers w → IsSure w }
 {}
 
-/// Layers that agree with their files can be read. Only what has happened counts, and what is put doesn't. Layers that were
-/// mounted agree, and their stack is hardened as it is.
+/// Layers that agree with their files are tied to them, and such can be read. Only what has happened counts, and what is put
+/// doesn't. Layers that were mounted agree, and their stack is hardened as it is.
 pub fn mounted_layers_agree()
-    ensures reads { (layers : List LayerState) (s : Seen) → (Tells s → AgreeAll layers s.world) → CanReadAll layers s }
+    ensures ties { (layers : List LayerState) (w : World) → AgreeAll layers w → AreTied layers w }
+    ensures reads { (layers : List LayerState) (s : Seen) → (Tells s → IsSure s.world → AreTied layers s.world) → CanReadAll layers s }
     ensures events { (layers : List LayerState) (v w : World) → v.events ≡ w.events → AgreeAll layers v → AgreeAll layers w }
     ensures puts { (layers : List LayerState) (bytes : List ℕ) (w : World) → AgreeAll layers w → AgreeAll layers (after_put bytes w) }
     ensures agree { (limit : ℕ) (s : StackState) (old new : Seen) → IsStack s → AreFreshFrom limit 0 s.layers → Tells new → IsSure old.world → IsMounted (file_of old.world) s

@@ -10,6 +10,7 @@ ghost use Rattle.cckd_layer.specs.Reads.{OfFile};
 ghost use Rattle.cckd_layer.specs.Mounted.{IsFresh, IsOf, CanRead, CountsOpen, OnlyLooks, kept_view};
 ghost use Rattle.cckd_stack.specs.Mounting.{roles_in, IsSlotCause, SyncsOne, IsLayersCause, IsMountCause, IsMounted, IsRow, HasMounted, SyncsSome, AreFreshFrom, StandFrom, after_syncs, shape_of};
 ghost use Rattle.cckd_stack.specs.Stacked.{IsStack, OfFiles, CanReadAll};
+ghost use Rattle.cckd_stack.specs.Writes.{AreTied};
 
 use crate::presence::{row, slot_of};
 use crate::stack::Stack;
@@ -169,6 +170,9 @@ impl<U> Stack<U> {
         // Each layer whose file is snug stands, and all can be read.
         ensures stand { OfFiles (λ files. IfOk result (λ s. StandFrom files (seen T.Shows stage.new).world 0 s.layers)) (seen T.Shows stage.old) }
         ensures can_read { IfOk result (λ s. CanReadAll s.layers (seen T.Shows stage.new)) }
+
+        // In any case each is tied to its file.
+        ensures tied { OfFiles (λ files. IfOk result (λ s. AreTied s.layers (seen T.Shows stage.new).world)) (seen T.Shows stage.old) }
 
         // Why there is no stack, and what was done.
         ensures cause { IfErr result (IsMountCause (seen T.Shows stage.old)) }

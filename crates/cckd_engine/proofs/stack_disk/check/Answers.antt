@@ -1,10 +1,10 @@
-use Rattle.std.proofs.Common.{◌≡◌, [], length, refl, sym, ap, ◌∙◌, subst}
+use Rattle.std.proofs.Common.{[], length, sym, ap, ◌∙◌, subst}
 use Rattle.cckd_base.specs.declared.call.Call.TheVariants as call
 use Rattle.cckd_base.specs.declared.reply.Reply.{Reply}
 use Rattle.cckd_shelf.specs.Seen.{seen}
 use Rattle.cckd_stack.specs.Answers.{Answer}
 use Rattle.cckd_stack.specs.Called.{stack_in}
-use Rattle.cckd_stack.proofs.TiedLemmas.{agree_reads, tied_sure}
+use Rattle.cckd_stack.proofs.TiedLemmas.{tied_reads_all}
 use Rattle.cckd_engine.specs.Calls.{asks, answer_in}
 use Rattle.cckd_engine.specs.Performs.{Performs, said_to_check}
 use Rattle.cckd_engine.proofs.CallLemmas.{reads_do}
@@ -12,7 +12,7 @@ use Rattle.cckd_engine.proofs.TrackCallLemmas.{check_answers, check_fits, check_
 use Rattle.cckd_engine.proofs.stack_disk.check.Goals as goal
 
 pub check-found-requires-clause-can_read : goal.check-found-requires-clause-can_read
-check-found-requires-clause-can_read g c = agree_reads c.args.disk.now.layers (seen g.T.Shows c.args.stage.now) c.requires.can.tied
+check-found-requires-clause-can_read g c = tied_reads_all c.args.disk.now.layers (seen g.T.Shows c.args.stage.now) c.requires.can.tied
 
 pub returns-clause-performs : goal.returns-clause-performs
 returns-clause-performs g c = λ given out.
@@ -26,8 +26,6 @@ returns-clause-performs g c = λ given out.
     (sym (ap (λ (said : Reply). answer_in said out) c.reply_to_check.ensures ∙ check_plain c.args.level found out))
     (reads_do old new before after c.requires.can (λ told. told) (λ told. told) done.rest done.cached done.can_read done.reads.kept
     (asks (call.Check c.args.level) given) (record { reply = said_to_check c.args.level found; bytes = [] })
-    (λ told.
-    let sure = tied_sure old.layers before.world c.requires.stack.some (c.requires.can.tied told) in
-    check_answers old.geometry (stack_in old before.world.events) given c.args.level found (done.bad told sure) done.refusal)
+    (λ told sure. check_answers old.geometry (stack_in old before.world.events) given c.args.level found (done.bad told sure) done.refusal)
     (check_fits c.args.level (length given) found done.refusal) (λ s. check_stays old.geometry s given c.args.level found) (check_calm c.args.level found)
     (check_counts c.args.level found before.faults after.faults done.reads.counts))

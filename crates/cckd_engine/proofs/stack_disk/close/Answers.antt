@@ -1,18 +1,19 @@
-use Rattle.std.proofs.Common.{◌≡◌, refl, sym, ap, ◌∙◌, subst}
+use Rattle.std.proofs.Common.{refl, sym, ap, ◌∙◌, subst}
 use Rattle.cckd_base.specs.declared.call.Call.TheVariants as call
 use Rattle.cckd_base.specs.declared.reply.Reply.{Reply}
 use Rattle.cckd_base.specs.declared.reply.Reply.TheVariants as reply
 use Rattle.cckd_shelf.specs.Seen.{seen}
 use Rattle.cckd_stack.specs.Answers.{Answer}
-use Rattle.cckd_stack.proofs.TiedLemmas.{agree_reads}
+use Rattle.cckd_stack.proofs.TiedLemmas.{tied_reads_all}
 use Rattle.cckd_engine.specs.Calls.{asks, answer_in}
 use Rattle.cckd_engine.specs.Performs.{Performs}
+use Rattle.cckd_stack.proofs.SomeLemmas.{files_some, sure_changed}
 use Rattle.cckd_engine.proofs.CallLemmas.{harden_does, still_quiet}
 use Rattle.cckd_engine.proofs.TrackCallLemmas.{done_plain}
 use Rattle.cckd_engine.proofs.stack_disk.close.Goals as goal
 
 pub close-made-requires-clause-can_read : goal.close-made-requires-clause-can_read
-close-made-requires-clause-can_read g c = agree_reads c.args.disk.now.layers (seen g.T.Shows c.args.stage.now) c.requires.can.tied
+close-made-requires-clause-can_read g c = tied_reads_all c.args.disk.now.layers (seen g.T.Shows c.args.stage.now) c.requires.can.tied
 
 pub returns : goal.returns
 returns g c = λ given out.
@@ -26,5 +27,6 @@ returns g c = λ given out.
     (sym (ap (λ (said : Reply). answer_in said out) c.reply_of.ensures ∙ done_plain (Unit {0}) reply.Closed made out refl))
     (harden_does old new before after c.requires.can (λ told. told) made done.geometry done.broken done.stops
     (λ told. record { output = (done.others told).output; script = (done.others told).script })
+    (files_some old.layers new.layers done.files c.requires.stack.some) (λ told. sure_changed old.layers before.world after.world (done.others told))
     call.Close given reply.Closed refl refl refl refl refl done.map done.settles done.refusal done.counts
     (λ unchanged. let still = done.still (unchanged) in still_quiet old new before after still.1 still.2 unchanged))

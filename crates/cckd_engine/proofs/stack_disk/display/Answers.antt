@@ -1,10 +1,10 @@
-use Rattle.std.proofs.Common.{◌≡◌, [], length, refl, sym, ap, ◌∙◌, subst}
+use Rattle.std.proofs.Common.{[], length, sym, ap, ◌∙◌, subst}
 use Rattle.cckd_base.specs.declared.call.Call.TheVariants as call
 use Rattle.cckd_base.specs.declared.reply.Reply.{Reply}
 use Rattle.cckd_shelf.specs.Seen.{seen}
 use Rattle.cckd_stack.specs.Answers.{Answer}
 use Rattle.cckd_stack.specs.Called.{stack_in}
-use Rattle.cckd_stack.proofs.TiedLemmas.{agree_reads, tied_sure}
+use Rattle.cckd_stack.proofs.TiedLemmas.{tied_reads_all}
 use Rattle.cckd_engine.specs.Calls.{asks, answer_in}
 use Rattle.cckd_engine.specs.Performs.{Performs, said_to_display}
 use Rattle.cckd_engine.proofs.CallLemmas.{reads_do}
@@ -12,7 +12,7 @@ use Rattle.cckd_engine.proofs.TrackCallLemmas.{display_answers, display_fits, di
 use Rattle.cckd_engine.proofs.stack_disk.display.Goals as goal
 
 pub display-found-requires-clause-can_read : goal.display-found-requires-clause-can_read
-display-found-requires-clause-can_read g c = agree_reads c.args.disk.now.layers (seen g.T.Shows c.args.stage.now) c.requires.can.tied
+display-found-requires-clause-can_read g c = tied_reads_all c.args.disk.now.layers (seen g.T.Shows c.args.stage.now) c.requires.can.tied
 
 pub returns : goal.returns
 returns g c = λ given out.
@@ -26,8 +26,6 @@ returns g c = λ given out.
     (sym (ap (λ (said : Reply). answer_in said out) c.reply_to_display.ensures ∙ display_plain found out))
     (reads_do old new before after c.requires.can (λ told. told) (λ told. told) done.rest done.cached done.can_read done.reads.kept
     (asks call.Display given) (record { reply = said_to_display found; bytes = [] })
-    (λ told.
-    let sure = tied_sure old.layers before.world c.requires.stack.some (c.requires.can.tied told) in
-    display_answers old.geometry (stack_in old before.world.events) given found (done.shown told sure) done.refusal)
+    (λ told sure. display_answers old.geometry (stack_in old before.world.events) given found (done.shown told sure) done.refusal)
     (display_fits (length given) found done.fits done.refusal) (λ s. display_stays old.geometry s given found) (display_calm found)
     (display_counts found before.faults after.faults done.reads.counts))

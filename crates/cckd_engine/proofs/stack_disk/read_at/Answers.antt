@@ -1,10 +1,10 @@
-use Rattle.std.proofs.Common.{◌≡◌, length, Some, None, refl, sym, ap, ◌∙◌, subst}
+use Rattle.std.proofs.Common.{length, Some, None, sym, ap, subst}
 use Rattle.cckd_base.specs.declared.call.Call.TheVariants as call
 use Rattle.cckd_base.specs.declared.reply.Reply.{Reply}
 use Rattle.cckd_shelf.specs.Seen.{seen}
 use Rattle.cckd_stack.specs.Answers.{Answer}
 use Rattle.cckd_stack.specs.Called.{stack_in}
-use Rattle.cckd_stack.proofs.TiedLemmas.{agree_reads, tied_sure}
+use Rattle.cckd_stack.proofs.TiedLemmas.{tied_reads_all}
 use Rattle.cckd_engine.specs.Calls.{asks, answer_in}
 use Rattle.cckd_engine.specs.Performs.{Performs, said_to_read}
 use Rattle.cckd_engine.proofs.CallLemmas.{no_track, reads_do}
@@ -18,7 +18,7 @@ returns-in_default-clause-performs g c = λ given.
     (looked_up c.args.disk.now.geometry c.args.shape.now c.args.at None c.track.result c.requires.shape c.track.ensures.value c.in_default.is))
 
 pub read-found-requires-clause-can_read : goal.read-found-requires-clause-can_read
-read-found-requires-clause-can_read g c = agree_reads c.args.disk.now.layers (seen g.T.Shows c.args.stage.now) c.requires.can.tied
+read-found-requires-clause-can_read g c = tied_reads_all c.args.disk.now.layers (seen g.T.Shows c.args.stage.now) c.requires.can.tied
 
 pub returns-clause-performs : goal.returns-clause-performs
 returns-clause-performs g c = λ given.
@@ -36,9 +36,7 @@ returns-clause-performs g c = λ given.
     (sym (ap (λ (said : Reply). answer_in said out) c.reply_to_read.ensures))
     (reads_do old new before after c.requires.can (λ told. told) (λ told. told) done.rest done.cached done.can_read done.reads.kept
     (asks (call.Read at) given) (answer_in (said_to_read found) out)
-    (λ told.
-    let sure = tied_sure old.layers before.world c.requires.stack.some (c.requires.can.tied told) in
-    read_answers old.geometry at t here (stack_in old before.world.events) given c.args.out.now out found (done.answer told sure) (done.checked told sure) (done.refusal told sure))
+    (λ told sure. read_answers old.geometry at t here (stack_in old before.world.events) given c.args.out.now out found (done.answer told sure) (done.checked told sure) (done.refusal told sure))
     (read_fits old.geometry at t (length given) out found c.requires.stack.geometry done.accepted done.kind)
     (λ s. read_stays old.geometry at t here s given (said_to_read found)) (read_calm at found)
     (read_counts found before.faults after.faults done.reads.counts))

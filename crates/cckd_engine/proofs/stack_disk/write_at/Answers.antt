@@ -1,9 +1,12 @@
-use Rattle.std.proofs.Common.{◌≡◌, length, Some, None, refl, sym, ap, ◌∙◌, subst}
+use Rattle.std.proofs.Common.{◌≡◌, ◌-◌, length, Some, None, refl, sym, ap, ◌∙◌, subst}
 use Rattle.cckd_base.specs.declared.call.Call.TheVariants as call
 use Rattle.cckd_base.specs.declared.reply.Reply.{Reply}
 use Rattle.cckd_base.specs.declared.reply.Reply.TheVariants as reply
 use Rattle.cckd_shelf.specs.Seen.{seen}
 use Rattle.cckd_stack.specs.Answers.{Answer}
+use Rattle.cckd_layer.specs.Writes.{IsSameFile}
+use Rattle.cckd_layer.proofs.SureLemmas.{sure_spared}
+use Rattle.cckd_stack.proofs.SomeLemmas.{changes_some}
 use Rattle.cckd_engine.specs.Calls.{asks, answer_in}
 use Rattle.cckd_engine.specs.Performs.{Performs}
 use Rattle.cckd_engine.proofs.CallLemmas.{no_track}
@@ -31,4 +34,5 @@ returns g c = λ out.
     (sym (ap (λ (said : Reply). answer_in said out) c.reply_of.ensures ∙ done_plain (Unit {0}) (reply.Written (length given)) made out refl))
     (write_does old new before after c.requires.can (λ told. told) made done.geometry done.broken done.stops
     (λ told. record { output = (done.others told).output; script = (done.others told).script })
+    (changes_some IsSameFile old.layers new.layers done.last) (λ told. sure_spared (length old.layers - 1) before.world after.world (done.others told))
     at c.in-Some.t.0 here given done.stores done.checked done.map done.refusal done.counts)

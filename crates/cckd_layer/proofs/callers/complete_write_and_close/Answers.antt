@@ -3,12 +3,15 @@ use Rattle.cckd_shelf.specs.Seen.{seen}
 use Rattle.cckd_layer.specs.Callers.{written}
 use Rattle.cckd_layer.specs.Mounted.{LayerState}
 use Rattle.cckd_layer.proofs.StepLemmas.{only_then}
+use Rattle.cckd_layer.proofs.SureLemmas.{sure_spared}
 use Rattle.cckd_layer.proofs.ThenLemmas.{ok_then}
 use Rattle.cckd_layer.proofs.TogetherLemmas.{stored_tied}
 use Rattle.cckd_layer.proofs.callers.complete_write_and_close.Goals as goal
 
 pub write_and_close-requires-clause-agrees : goal.write_and_close-requires-clause-agrees
-write_and_close-requires-clause-agrees g c = λ told. (c.in_default.ensures.completed told).agrees
+write_and_close-requires-clause-agrees g c = λ told sure.
+    let was = sure_spared c.args.layer.now.slot (seen g.T.Shows c.args.stage.now).world (seen g.T.Shows c.complete.new.stage).world (c.complete.ensures.others told) sure in
+    (c.in_default.ensures.completed told was).agrees
 
 pub returns-clause-stores : goal.returns-clause-stores
 returns-clause-stores g c =

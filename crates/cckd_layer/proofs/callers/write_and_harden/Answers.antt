@@ -1,5 +1,6 @@
 use Rattle.cckd_shelf.specs.Seen.{seen}
 use Rattle.cckd_layer.specs.Callers.{written}
+use Rattle.cckd_layer.proofs.SureLemmas.{sure_spared}
 use Rattle.cckd_layer.proofs.TogetherLemmas.{write_stops, wrote_once, act_behind, others_behind, stored_kept, holds_written}
 use Rattle.cckd_layer.proofs.ThenLemmas.{ok_then}
 use Rattle.cckd_layer.proofs.callers.write_and_harden.Goals as goal
@@ -11,7 +12,9 @@ returns-in-Err-clause-stopped g c =
 
 pub harden-requires-clause-can_read : goal.harden-requires-clause-can_read
 harden-requires-clause-can_read g c =
-    c.layers_agree.ensures.reads c.write.new.self (seen g.T.Shows c.write.new.stage) (λ told. (c.in_default.ensures.stores told (c.requires.agrees told)).agrees)
+    c.layers_agree.ensures.reads c.write.new.self (seen g.T.Shows c.write.new.stage) (λ told sure.
+    let was = sure_spared c.args.layer.now.slot (seen g.T.Shows c.args.stage.now).world (seen g.T.Shows c.write.new.stage).world (c.write.ensures.others told) sure in
+    (c.in_default.ensures.stores told (c.requires.agrees told was)).agrees)
 
 pub returns-clause-stopped : goal.returns-clause-stopped
 returns-clause-stopped g c =

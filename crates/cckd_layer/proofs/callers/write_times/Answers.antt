@@ -4,7 +4,7 @@ use Rattle.cckd_base.specs.Geometry.{track_count}
 use Rattle.cckd_shelf.specs.Seen.{seen}
 use Rattle.cckd_layer.specs.Writes.{is_broken_by}
 use Rattle.cckd_layer.specs.Callers.{written}
-use Rattle.cckd_layer.proofs.TogetherLemmas.{none_written, written_again, act_behind, others_behind}
+use Rattle.cckd_layer.proofs.TogetherLemmas.{none_written, written_agrees, written_again, act_behind, others_behind}
 use Rattle.cckd_layer.proofs.callers.write_times.Goals as goal
 
 pub loop-time-init : goal.loop-time-init
@@ -21,7 +21,9 @@ write-requires-clause-track g c =
     subst (λ (l : Layout). c.args.t.0 < track_count l.geo) (sym c.loop-time.invariant.so_far.same.layout) c.requires.track
 
 pub write-requires-clause-agrees : goal.write-requires-clause-agrees
-write-requires-clause-agrees g c = c.loop-time.invariant.so_far.agrees
+write-requires-clause-agrees g c =
+    let more = written g.U.Unit.value c.args.t.0 c.args.bytes.now in
+    written_agrees g.U.Unit.null_bytes more c.args.layer.now c.loop-time.layer (seen g.T.Shows c.args.stage.now) (seen g.T.Shows c.loop-time.stage) (λ told. told) c.loop-time.invariant.so_far
 
 pub returns-in-Err-clause-stopped : goal.returns-in-Err-clause-stopped
 returns-in-Err-clause-stopped g c =
@@ -56,7 +58,9 @@ harden-requires-clause-whole g c = c.loop-time.invariant.whole
 
 pub harden-requires-clause-can_read : goal.harden-requires-clause-can_read
 harden-requires-clause-can_read g c =
-    c.layers_agree.ensures.reads c.loop-time.layer (seen g.T.Shows c.loop-time.stage) c.loop-time.invariant.so_far.agrees
+    let more = written g.U.Unit.value c.args.t.0 c.args.bytes.now in
+    c.layers_agree.ensures.reads c.loop-time.layer (seen g.T.Shows c.loop-time.stage)
+    (written_agrees g.U.Unit.null_bytes more c.args.layer.now c.loop-time.layer (seen g.T.Shows c.args.stage.now) (seen g.T.Shows c.loop-time.stage) (λ told. told) c.loop-time.invariant.so_far)
 
 pub returns-clause-stopped : goal.returns-clause-stopped
 returns-clause-stopped g c =

@@ -1,8 +1,9 @@
-use Rattle.std.proofs.Common.{◌+◌, ◌-◌, length, ap, arith, get_or}
+use Rattle.std.proofs.Common.{◌+◌, ◌-◌, length, Err, ap, arith, get_or}
 use Rattle.std.proofs.lemmas.Bool.{false≢true}
 use Rattle.cckd_shelf.specs.Seen.{Seen, seen}
 use Rattle.cckd_layer.specs.Mounted.{LayerState}
-use Rattle.cckd_stack.proofs.CloseLemmas.{none_closed, reads_here, next_slots, next_files, next_lies, next_spares, unchanged_now, one_closed}
+use Rattle.cckd_stack.proofs.CloseLemmas.{none_closed, reads_here, next_slots, next_files, next_keeps, next_lies, next_spares, unchanged_now, one_closed}
+use Rattle.cckd_stack.proofs.WritesLemmas.{whole_keeps}
 use Rattle.cckd_stack.proofs.closing.close_each.Goals as goal
 
 pub loop-done-init : goal.loop-done-init
@@ -37,6 +38,20 @@ returns-in-Err-clause-layers g c =
     next_slots g.U.Unit.null_bytes c.args.geo.now start now (seen g.T.Shows c.args.stage.now) (seen g.T.Shows c.loop-done.stage) (length start - c.loop-done.done) n (λ told. told) c.loop-done.invariant (omega (arith, c.loop-done-test.true)) x
     (ap (λ (d : LayerState). get_or now n d) c.index-layers-count.is) (omega (arith, c.loop-done-test.true))
     c.close.new.self (seen g.T.Shows c.close.new.stage) (λ told. told) c.close.ensures.same c.close.ensures.others
+
+pub returns-in-Err-clause-map : goal.returns-in-Err-clause-map
+returns-in-Err-clause-map g c = λ whole.
+    let start = c.args.layers.now in
+    let now = c.loop-done.layers in
+    let n = length start - 1 - c.loop-done.done in
+    let x = get_or now n c.index-layers-count.result in
+    let b = seen g.T.Shows c.loop-done.stage in
+    let z = seen g.T.Shows c.close.new.stage in
+    next_keeps g.U.Unit.null_bytes c.args.geo.now start now (seen g.T.Shows c.args.stage.now) b (length start - c.loop-done.done) n (λ told. told) c.loop-done.invariant (omega (arith, c.loop-done-test.true)) x
+    (ap (λ (d : LayerState). get_or now n d) c.index-layers-count.is) (omega (arith, c.loop-done-test.true))
+    c.close.new.self z (λ told. told) c.close.ensures.same c.close.ensures.others
+    (whole_keeps (Unit {0}) g.U.Unit.null_bytes x c.close.new.self b z (Err c.in-Err.fault) tt c.in-Err.ensures.refusal c.in-Err.ensures.read whole)
+    (λ unmarked hardened. let h = c.close.ensures.still unmarked hardened in (h.1, h.2))
 
 pub returns-in-Err-clause-stops : goal.returns-in-Err-clause-stops
 returns-in-Err-clause-stops g c =

@@ -2,7 +2,7 @@ use Rattle.std.proofs.Common.{◌≡◌, ◌-◌, true, length, refl, ◌∙◌,
 use Rattle.cckd_shelf.specs.Seen.{seen}
 use Rattle.cckd_layer.specs.Mounted.{LayerState}
 use Rattle.cckd_layer.specs.Writes.{IsSameLayer}
-use Rattle.cckd_stack.proofs.WritesLemmas.{whole_keeps, same_file, set_last, set_ends, set_layers, set_whole, set_keeps, set_lies, set_settles_ok, set_others}
+use Rattle.cckd_stack.proofs.WritesLemmas.{whole_keeps, still_ties, same_file, set_last, set_ends, set_layers, set_whole, set_keeps_each, set_lies, set_settles_ok, set_others}
 use Rattle.cckd_stack.proofs.hardening.harden_last.Goals as goal
 
 pub returns-clause-settles : goal.returns-clause-settles
@@ -29,9 +29,11 @@ returns-clause-map g c = λ whole.
     let n = length layers - 1 in
     let x = get_or layers n c.index-layers-last.result in
     let y = c.harden.new.self in
-    set_keeps layers n x y (ap (λ (d : LayerState). get_or layers n d) c.index-layers-last.is) (omega (arith, c.requires.some))
+    set_keeps_each layers n x y (ap (λ (d : LayerState). get_or layers n d) c.index-layers-last.is) (omega (arith, c.requires.some))
     g.U.Unit.null_bytes c.args.geo.now (seen g.T.Shows c.args.stage.now) (seen g.T.Shows c.harden.new.stage) c.requires.layers (same_file x y c.harden.ensures.same) c.harden.ensures.others
+    (still_ties g.U.Unit.null_bytes x y (seen g.T.Shows c.args.stage.now) (seen g.T.Shows c.harden.new.stage)
     (whole_keeps (Unit {0}) g.U.Unit.null_bytes x y (seen g.T.Shows c.args.stage.now) (seen g.T.Shows c.harden.new.stage) c.harden.result c.harden.ensures.map c.harden.ensures.refusal c.harden.ensures.read whole)
+    (λ unmarked hardened. let h = c.harden.ensures.still hardened in (h.1, h.2)))
 
 pub returns-clause-last : goal.returns-clause-last
 returns-clause-last g c =

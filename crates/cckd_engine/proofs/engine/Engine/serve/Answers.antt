@@ -50,3 +50,6 @@ returns-clause-agrees g c = λ told tells.
 
 pub returns-clause-script : goal.returns-clause-script
 returns-clause-script g c = λ told. (c.put_line-self.ensures.front told).put.script ∙ (c.step-reply.ensures.run told).script
+
+pub returns-clause-one : goal.returns-clause-one
+returns-clause-one g c = λ heard. c.put_line-self.ensures.one (c.step-reply.ensures.mute ∙ heard)

@@ -10,8 +10,9 @@ returns-in-Some-clause-stops g c = λ session s0 h told stands tells left.
 pub returns-then-breaks-clause-stands : goal.returns-then-breaks-clause-stands
 returns-then-breaks-clause-stands g c = λ session s0 h told stands.
     let breaks : reply_breaks c.args.call c.perform-reply.result ≡ true = sym c.breaks.ensures ∙ c.if-breaks.true in
-    stands_next s0 h _ _ _ stands c.perform-reply.ensures.geometry refl c.in_default.is (c.perform-reply.ensures.answers told)
-    (c.perform-reply.ensures.stack told) (ap (λ (b : Bool). number_if b (c.args.self.now.calls + 1)) (sym breaks)) c.count.ensures
+    let sure = stands.sure c.in_default.is in
+    stands_next s0 h _ _ _ stands c.perform-reply.ensures.geometry refl c.in_default.is (c.perform-reply.ensures.answers told sure)
+    (c.perform-reply.ensures.sure told sure) (c.perform-reply.ensures.stack told sure) (ap (λ (b : Bool). number_if b (c.args.self.now.calls + 1)) (sym breaks)) c.count.ensures
 
 pub returns-then-breaks-clause-stops : goal.returns-then-breaks-clause-stops
 returns-then-breaks-clause-stops g c = λ session s0 h told stands tells left.
@@ -21,8 +22,9 @@ returns-then-breaks-clause-stops g c = λ session s0 h told stands tells left.
 pub returns-else-breaks-clause-stands : goal.returns-else-breaks-clause-stands
 returns-else-breaks-clause-stands g c = λ session s0 h told stands.
     let fine : reply_breaks c.args.call c.perform-reply.result ≡ false = sym c.breaks.ensures ∙ c.if-breaks.false in
-    stands_next s0 h _ _ _ stands c.perform-reply.ensures.geometry refl c.in_default.is (c.perform-reply.ensures.answers told)
-    (c.perform-reply.ensures.stack told) (c.in_default.is ∙ ap (λ (b : Bool). number_if b (c.args.self.now.calls + 1)) (sym fine)) c.count.ensures
+    let sure = stands.sure c.in_default.is in
+    stands_next s0 h _ _ _ stands c.perform-reply.ensures.geometry refl c.in_default.is (c.perform-reply.ensures.answers told sure)
+    (c.perform-reply.ensures.sure told sure) (c.perform-reply.ensures.stack told sure) (c.in_default.is ∙ ap (λ (b : Bool). number_if b (c.args.self.now.calls + 1)) (sym fine)) c.count.ensures
 
 pub returns-else-breaks-clause-stops : goal.returns-else-breaks-clause-stops
 returns-else-breaks-clause-stops g c = λ session s0 h told stands tells left.

@@ -1,6 +1,8 @@
-use Rattle.std.proofs.Common.{ap}
+use Rattle.std.proofs.Common.{ap, sym, subst}
+use Rattle.cckd_stack.specs.Stacked.{StackState}
+use Rattle.cckd_stack.specs.Writes.{AreUnchanged}
 use Rattle.cckd_shelf.specs.Seen.{seen}
-use Rattle.cckd_engine.proofs.MountLemmas.{just_by, just_opens, just_new, just_runs, just_agrees, just_stops}
+use Rattle.cckd_engine.proofs.MountLemmas.{just_by, just_opens, just_new, just_runs, just_agrees, just_stops, fresh_unchanged}
 use Rattle.cckd_engine.proofs.mounting.Engine+T+Stack+Ckd.mount.Goals as goal
 
 pub returns-in-Ok-clause-opens : goal.returns-in-Ok-clause-opens
@@ -16,10 +18,11 @@ returns-in-Ok-clause-opens g c =
       mounted = c.in-Ok.ensures.mounted;
       stand = c.in-Ok.ensures.stand;
       synced = c.in-Ok.ensures.synced;
+      tied = c.in-Ok.ensures.tied;
     }))
 
 pub returns-in-Ok-clause-runs : goal.returns-in-Ok-clause-runs
-returns-in-Ok-clause-runs g c = λ snug none.
+returns-in-Ok-clause-runs g c = λ none.
     just_runs c.args.limit c.new.result.disk (seen g.T.Shows c.args.stage) (seen g.T.Shows c.new.result.stage)
     (just_by c.args.limit c.in-Ok.disk c.new.result.disk (seen g.T.Shows c.args.stage) (seen g.T.Shows c.mount.new.stage) (seen g.T.Shows c.new.result.stage)
     c.new.ensures.disk (ap (seen g.T.Shows) c.new.ensures.stage) (record {
@@ -31,7 +34,8 @@ returns-in-Ok-clause-runs g c = λ snug none.
       mounted = c.in-Ok.ensures.mounted;
       stand = c.in-Ok.ensures.stand;
       synced = c.in-Ok.ensures.synced;
-    })) c.requires.sure snug
+      tied = c.in-Ok.ensures.tied;
+    }))
 
 pub returns-in-Ok-clause-agrees : goal.returns-in-Ok-clause-agrees
 returns-in-Ok-clause-agrees g c = λ told sure snug none.
@@ -46,6 +50,7 @@ returns-in-Ok-clause-agrees g c = λ told sure snug none.
       mounted = c.in-Ok.ensures.mounted;
       stand = c.in-Ok.ensures.stand;
       synced = c.in-Ok.ensures.synced;
+      tied = c.in-Ok.ensures.tied;
     })) told sure snug
 
 pub returns-in-Ok-clause-stops : goal.returns-in-Ok-clause-stops
@@ -61,6 +66,7 @@ returns-in-Ok-clause-stops g c =
       mounted = c.in-Ok.ensures.mounted;
       stand = c.in-Ok.ensures.stand;
       synced = c.in-Ok.ensures.synced;
+      tied = c.in-Ok.ensures.tied;
     }))
 
 pub returns-in-Ok-clause-stands : goal.returns-in-Ok-clause-stands
@@ -76,5 +82,10 @@ returns-in-Ok-clause-stands g c =
       mounted = c.in-Ok.ensures.mounted;
       stand = c.in-Ok.ensures.stand;
       synced = c.in-Ok.ensures.synced;
+      tied = c.in-Ok.ensures.tied;
     }))
     c.new.result.calls c.new.result.broken c.new.result.tally c.new.ensures.calls c.new.ensures.broken c.new.ensures.tally
+
+pub returns-in-Ok-clause-unchanged : goal.returns-in-Ok-clause-unchanged
+returns-in-Ok-clause-unchanged g c =
+    subst (λ (s : StackState). AreUnchanged s.layers) (sym c.new.ensures.disk) (fresh_unchanged c.args.limit 0 c.in-Ok.disk.layers c.in-Ok.ensures.fresh)

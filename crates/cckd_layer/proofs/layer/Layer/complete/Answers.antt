@@ -1,5 +1,6 @@
 use Rattle.std.proofs.Common.{◌∙◌, sym, subst}
 use Rattle.cckd_shelf.specs.Seen.{seen}
+use Rattle.cckd_shelf.specs.World.{IsSure}
 use Rattle.cckd_shelf.proofs.FrameLemmas.{only_stays}
 use Rattle.cckd_layer.specs.Mounted.{LayerState}
 use Rattle.cckd_layer.specs.Loose.{IsOnlyLooked}
@@ -7,8 +8,9 @@ use Rattle.cckd_layer.proofs.ExcessLemmas.{looked_then}
 use Rattle.cckd_layer.proofs.layer.Layer.complete.Goals as goal
 
 pub put_entry-requires-clause-passes : goal.put_entry-requires-clause-passes
-put_entry-requires-clause-passes g c = λ told.
-    let found = rw c.in-Ok-Some.field-0-is at (c.in-Ok-Some.ensures.some told) in
+put_entry-requires-clause-passes g c = λ told sure.
+    let stayed = c.forget.ensures.reads.kept told ∙ c.excess.ensures.looked.kept told in
+    let found = rw c.in-Ok-Some.field-0-is at (c.in-Ok-Some.ensures.some told (subst IsSure stayed sure)) in
     c.in-Ok.ensures.words told c.in-Ok-Some.excess.track.0 c.in-Ok-Some.excess.entry found
 
 pub returns-in-Err-forget-clause-read : goal.returns-in-Err-forget-clause-read

@@ -1,5 +1,6 @@
 use Rattle.std.proofs.Common.{[], Result, Err, sym, ◌∙◌, ap, subst}
 use Rattle.cckd_shelf.specs.Seen.{seen, Tells}
+use Rattle.cckd_shelf.specs.World.{IsSure}
 use Rattle.cckd_base.specs.declared.geometry.Layout.{Layout}
 use Rattle.cckd_base.specs.declared.layer_fault.LayerFault.{LayerFault}
 use Rattle.cckd_layer.specs.Storing.{IsStoredOf, stored_as}
@@ -7,6 +8,7 @@ use Rattle.cckd_layer.specs.Mounted.{LayerState, CanRead}
 use Rattle.cckd_layer.specs.Writes.{Agrees, IsAct, KeepsMapWith, claims_of}
 use Rattle.cckd_layer.specs.Preparing.{IsNoRoomIn, SuitsFile}
 use Rattle.cckd_layer.proofs.CallerLemmas.{agrees_reads}
+use Rattle.cckd_layer.proofs.SureLemmas.{sure_spared}
 use Rattle.cckd_layer.proofs.ThenLemmas.{act_still, act_then, maps_then}
 use Rattle.cckd_layer.proofs.PrepareLemmas.{kept_unread, map_same, looked_same}
 use Rattle.cckd_layer.proofs.ReadyLemmas.{outside_refusal, no_room_refusal, prepared, ready_still}
@@ -36,7 +38,8 @@ find_entry-requires-clause-can_read g c =
     let m = c.make_free_stages.new.self in
     let a = seen g.T.Shows c.args.stage.now in
     let b = seen g.T.Shows c.make_free_stages.new.stage in
-    agrees_reads m b (λ told. (c.in_default.ensures.map told (c.requires.agrees told)).agrees)
+    let was = sure_spared s.slot a.world b.world in
+    agrees_reads m b (λ told sure. (c.in_default.ensures.map told (c.requires.agrees told (was (c.make_free_stages.ensures.act.others told) sure))).agrees)
 
 pub find_places-requires-clause-can_read : goal.find_places-requires-clause-can_read
 find_places-requires-clause-can_read g c =
@@ -51,7 +54,10 @@ find_places-requires-clause-can_read g c =
     let sameF = looked_same m f f.tables.cached c.find_entry.ensures.rest in
     let sameH = c.stored-stored.ensures.same in
     let map = maps_then [] [] [] null s m f a b d (λ told. told) c.make_free_stages.ensures.act.same c.in_default.ensures.map c.find_entry.ensures.map in
-    subst (λ (x : LayerState). CanRead x d) (sym sameH) (agrees_reads f d (λ told. (map told (c.requires.agrees told)).agrees))
+    let was = sure_spared s.slot a.world b.world in
+    subst (λ (x : LayerState). CanRead x d) (sym sameH)
+    (agrees_reads f d (λ told sure.
+    (map told (c.requires.agrees told (was (c.make_free_stages.ensures.act.others told) (subst IsSure (c.find_entry.ensures.reads.kept told) sure)))).agrees))
 
 pub returns-in-Ok-find_places-clause-prepared : goal.returns-in-Ok-find_places-clause-prepared
 returns-in-Ok-find_places-clause-prepared g c =

@@ -9,7 +9,7 @@ use Rattle.cckd_layer.proofs.CompleteLemmas.{put_complete}
 use Rattle.cckd_layer.proofs.layer.Layer.put_entry.Goals as goal
 
 pub returns-in-Ok-clause-completed : goal.returns-in-Ok-clause-completed
-returns-in-Ok-clause-completed g c = λ told.
+returns-in-Ok-clause-completed g c = λ told sure.
     let i = c.self.inside in
     let old = seen g.T.Shows c.args.stage.now in
     let new = seen g.T.Shows c.put_synced.new.shelf in
@@ -17,7 +17,7 @@ returns-in-Ok-clause-completed g c = λ told.
     let t = c.args.excess.track.0 in
     let e = c.args.excess.entry in
     let bytes = c.encode-bytes.result in
-    let passes : PassesEnd s old.world t e = subst (λ (x : LayerState). PassesEnd x old.world t e) (sym c.self.view_is) (c.requires.passes told) in
+    let passes : PassesEnd s old.world t e = subst (λ (x : LayerState). PassesEnd x old.world t e) (sym c.self.view_is) (c.requires.passes told sure) in
     let bare : s.tables.cached ≡ [] = subst (λ (x : LayerState). x.tables.cached ≡ []) (sym c.self.view_is) c.requires.bare in
     let eight : length bytes ≡ 8 = search rules in
     let spelled : entry_of s.tables.layout.order bytes ≡ e = subst (λ (l : Layout). entry_of l.order bytes ≡ e) c.layout-layout.ensures.layout c.encode-bytes.ensures.undone in
