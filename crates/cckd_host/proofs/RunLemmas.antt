@@ -5,9 +5,9 @@ use Rattle.cckd_shelf.specs.declared.fault.Kind.TheVariants.{Puts}
 use Rattle.cckd_shelf.specs.Frame.{PutsAll, PutsSome}
 use Rattle.cckd_shelf.specs.Seen.{Seen, Fails}
 use Rattle.cckd_shelf.proofs.PutLemmas.{puts_output}
-use Rattle.cckd_top.specs.Saying.{IsSaid, plain_text, whole, cut_short}
-use Rattle.cckd_top.proofs.CountLemmas.{rose_still, rose_one}
-use Rattle.cckd_top.proofs.WorldLemmas.{front_said}
+use Rattle.cckd_console.specs.Saying.{IsSaid, plain_text, whole, cut_short}
+use Rattle.cckd_console.proofs.CountLemmas.{rose_still, rose_one}
+use Rattle.cckd_top.proofs.SayingLemmas.{front_said}
 
 -- a text of status 8 was put, as far as the output took it
 pub said_or_cut : {A : Type 0} (text : List ℕ) (result : Result A Failed) (old new : Seen) → OnOk result (PutsAll text old new) → PutsSome text old new

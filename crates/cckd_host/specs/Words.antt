@@ -5,7 +5,7 @@ use Rattle.std.specs.declared.env.FillError.{FillError}
 use Rattle.std.specs.declared.env.FillError.TheVariants.{NotPresent, TooLong}
 use Rattle.cckd_shelf.specs.Seen.{Seen}
 use Rattle.cckd_shelf.specs.Frame.{PutsSome}
-use Rattle.cckd_top.specs.Saying.{IsSaid, plain_text}
+use Rattle.cckd_console.specs.Saying.{IsSaid, plain_text}
 
 -- a word as a run gets it: one that is no text, or has more than 255 bytes, may stand nowhere, and is made empty
 abbrev pub kept_word : List ℕ → List ℕ

@@ -45,6 +45,7 @@ pub fn run_from<T: Stage, W: WordSource>(stage: T, alloc: Global, source: &W) ->
 /// Runs the words behind the program's name, and answers the status that the process ends with.
 pub fn run(rt: HostRuntime) -> ExitCode {
     let alloc = rt.alloc();
-    let (_stage, status) = run_from(HostStage::new(rt, alloc), alloc, &rt);
+    let done = run_from(HostStage::new(rt, alloc), alloc, &rt);
+    let (_stage, status) = done;
     ExitCode::from(status)
 }

@@ -1,6 +1,7 @@
 pub mod LineLemmas
 pub mod TokenLemmas
 pub mod GrammarLemmas
+pub mod DigitLemmas
 pub mod ParseLemmas
 pub mod SpelledLemmas
 pub mod PhraseLemmas

@@ -2,9 +2,11 @@
 use Rattle.std.proofs.Common.{◌≡◌, ℕ, ◌+◌, ◌-◌, ◌<◌, ◌≤◌, List, [], ◌∷◌, length, drop, slice_range, Option, Some, None, Result, Ok, Err, sym, ◌∙◌, ap, arith, length-drop}
 use Rattle.std.proofs.lemmas.List.{length-take-le}
 use Rattle.cckd_script.specs.Lines.{tokens}
-use Rattle.cckd_script.specs.Grammar.{Kind, Value, value_of, value_before, values_of}
-use Rattle.cckd_script.specs.Parse.{Form, what_of, what_in, asked_by}
-use Rattle.cckd_script.specs.Inside.{rest_tokens, values_behind, IsBehind, IsNone, AsksFor}
+use Rattle.cckd_script.specs.declared.parse.Asked.{Asked}
+use Rattle.cckd_script.specs.declared.tokens.Place.{Place}
+use Rattle.cckd_script.specs.Grammar.{Kind, number, Value, amount, value_of, value_before, values_of}
+use Rattle.cckd_script.specs.Parse.{Request, Form, check_form, asked_by, kinds_behind}
+use Rattle.cckd_script.specs.Inside.{rest_tokens, values_behind, IsBehind, IsNone, IsAddressBehind, coordinate, request_of, AsksFor}
 use Rattle.cckd_script.proofs.TokenLemmas.{behind_place, some_behind, none_behind}
 
 -- a token of a kind behind a place
@@ -54,12 +56,39 @@ pub then_values : (line : List ℕ) (end after : ℕ) (kind : Kind) (value : Val
     → values_behind line end (kind ∷ kinds) ≡ value_before (end + 2) (Some value) more
 then_values line end after kind value kinds more is rest = is.passes kinds ∙ ap (value_before (end + 2) (Some value)) rest
 
+-- an address and what the tokens behind it say
+pub then_address : (line : List ℕ) (end : ℕ) (place : Place) (kinds : List Kind) (values : List Value) → IsAddressBehind line end place
+    → values_behind line place.end kinds ≡ Ok values
+    → values_behind line end (coordinate ∷ coordinate ∷ kinds) ≡ Ok (amount place.at.cyl ∷ amount place.at.head ∷ values)
+then_address line end place kinds values is rest =
+    then_values line end is.middle coordinate (amount place.at.cyl) (coordinate ∷ kinds) (Ok (amount place.at.head ∷ values)) is.cylinder
+    (then_values line is.middle place.end coordinate (amount place.at.head) kinds (Ok values) is.head rest)
+
+-- and where they are wrong
+pub address_stops : (line : List ℕ) (end column : ℕ) (place : Place) (kinds : List Kind) → IsAddressBehind line end place
+    → values_behind line place.end kinds ≡ Err column → values_behind line end (coordinate ∷ coordinate ∷ kinds) ≡ Err column
+address_stops line end column place kinds is rest =
+    then_values line end is.middle coordinate (amount place.at.cyl) (coordinate ∷ kinds) (Err column) is.cylinder
+    (then_values line is.middle place.end coordinate (amount place.at.head) kinds (Err column) is.head rest)
+
 -- a form whose tokens stop somewhere is a fault there
-pub asks_none : (form : Form) (line : List ℕ) (end column : ℕ) → values_behind line end form.kinds ≡ Err column
+pub asks_none : (form : Form) (line : List ℕ) (end column : ℕ)
+    → values_behind line end (kinds_behind form (rest_tokens line end)) ≡ Err column
     → AsksFor form line end (Err (record { column = column }))
-asks_none form line end column e = sym (ap (λ (r : Result (List Value) ℕ). what_in (asked_by form r)) e)
+asks_none form line end column e = sym (ap (asked_by form) e)
 
 -- and one whose tokens say values asks by them
-pub asks_some : (form : Form) (line : List ℕ) (end : ℕ) (values : List Value) → values_behind line end form.kinds ≡ Ok values
-    → AsksFor form line end (Ok (what_of (form.asks values)))
-asks_some form line end values e = sym (ap (λ (r : Result (List Value) ℕ). what_in (asked_by form r)) e)
+pub asks_some : (form : Form) (line : List ℕ) (end : ℕ) (asked : Asked) (values : List Value)
+    → values_behind line end (kinds_behind form (rest_tokens line end)) ≡ Ok values
+    → form.asks values ≡ request_of asked → AsksFor form line end (Ok asked)
+asks_some form line end asked values e is = sym (ap (asked_by form) e ∙ ap (λ (request : Request). Ok request) is)
+
+-- what is left behind a word of a check is a level
+pub check_kinds : (line : List ℕ) (end : ℕ) → end < length line → kinds_behind check_form (rest_tokens line end) ≡ number 0 3 ∷ []
+check_kinds line end inside = ap (kinds_behind check_form) (some_behind line end inside)
+
+-- and behind one that stands alone is nothing
+pub check_alone : (line : List ℕ) (end : ℕ) → end ≡ length line
+    → values_behind line end (kinds_behind check_form (rest_tokens line end)) ≡ Ok []
+check_alone line end last =
+    ap (values_behind line end) (ap (kinds_behind check_form) (none_behind line end last)) ∙ nothing_more line end last

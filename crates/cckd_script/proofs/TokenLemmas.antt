@@ -8,7 +8,7 @@ use Rattle.std.proofs.lemmas.List.{drop-drop, drop_all}
 use Rattle.std.proofs.lemmas.List.Sums.{prefix_len-le-length}
 use Rattle.std.proofs.lemmas.Str.Parse.{digit_from_value}
 use Rattle.std.proofs.Math.Seq.{take-length}
-use Rattle.cckd_script.specs.Lines.{begun, tokens}
+use Rattle.cckd_script.specs.Lines.{begun, tokens, joined}
 use Rattle.cckd_script.specs.Inside.{is_blank, behind, rest_tokens}
 
 -- how long the first token is
@@ -127,12 +127,6 @@ tokens_digits_alone (b ∷ digits) h =
     let other = digit_fails b range.0 in
     let more = tokens_digits_alone digits h.1 in
     rw other (ap (begun b) more)
-
--- tokens with a blank between each two
-abbrev pub joined : List (List ℕ) → List ℕ
-joined [] = []
-joined (part ∷ []) = part
-joined (part ∷ next ∷ parts) = part ++ 32 ∷ joined (next ∷ parts)
 
 joined_begun : (b : ℕ) (part : List ℕ) (parts : List (List ℕ)) → joined (begun b (part ∷ parts)) ≡ b ∷ joined (part ∷ parts)
 joined_begun b part [] = refl

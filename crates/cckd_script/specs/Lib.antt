@@ -1,7 +1,9 @@
 pub mod Lines
 pub mod Grammar
+pub mod Filled
 pub mod Parse
 pub mod Phrase
 pub mod Text
 pub mod Items
 pub mod Inside
+pub mod Spelling

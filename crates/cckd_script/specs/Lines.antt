@@ -38,3 +38,9 @@ HasNoFeed text = AllByRecursion (λ b. b ≢ 10) text
 abbrev pub tokens : List ℕ → List (List ℕ)
 tokens [] = [] ∷ []
 tokens (b ∷ rest) = if b == 32 then [] ∷ tokens rest else begun b (tokens rest)
+
+-- tokens with a blank between each two
+abbrev pub joined : List (List ℕ) → List ℕ
+joined [] = []
+joined (part ∷ []) = part
+joined (part ∷ next ∷ parts) = part ++ 32 ∷ joined (next ∷ parts)

@@ -1,6 +1,7 @@
 //! The lines of a script and of its replies: how one is read, and what is printed for each reply.
 #![tactic(auto)]
 
+mod fill;
 mod misread;
 mod parse;
 mod phrase;
@@ -8,6 +9,7 @@ mod print;
 #[cfg(test)]
 mod tests;
 mod text;
+mod tokens;
 
 pub use misread::Misreading;
 pub use parse::{Line, LineFault, What, parse_line};

@@ -1,17 +1,16 @@
 //! What a line of a script asks.
 
-ghost use Rattle.std.specs.Prelude.{◌≡◌, ◌↔◌, ◌+◌, ◌<◌, ◌≤◌, ◌^◌, ◌∷◌, [], ℕ, false, length, drop, slice_range, decimal, position, IfSome, IfNone, IfOk, IfErr, OnOk};
+ghost use Rattle.std.specs.Prelude.{◌≡◌, ◌↔◌, ◌+◌, ◌<◌, ◌≤◌, ◌^◌, ◌∷◌, [], ℕ, List, false, length, IfSome, IfNone, IfOk};
 ghost use Rattle.cckd_base.specs.Put.{IsPut};
-ghost use Rattle.cckd_base.specs.declared.geometry.Addr.{Addr as Address};
 ghost use Rattle.cckd_script.specs.Lines.{tokens};
-ghost use Rattle.cckd_script.specs.Grammar.{number, amount, value_of};
-ghost use Rattle.cckd_script.specs.Parse.{parsed, parsed_tokens, what_in, read_form, line_in, given_in, asks, read_line};
-ghost use Rattle.cckd_script.specs.Inside.{is_blank, rest_tokens, values_behind, IsNumberBehind, IsNone, AsksFor};
+ghost use Rattle.cckd_script.specs.Parse.{Request, parsed, parsed_tokens, forms, form_named, read_form, write_form, fill_form, bare_form, check_form, line_in, given_in};
+ghost use Rattle.cckd_script.specs.Spelling.{IsLineOf, IsAnswered};
+ghost use Rattle.cckd_script.specs.Inside.{decoded, AreDigits, bytes_of, GivenFits, request_in, word_text, AsksFor};
 
 use crate::LINE_LIMIT;
+use crate::fill::put_filled;
+use crate::tokens::{address_behind, digits_behind, ends_at, number_behind, token_end};
 use cckd_base::{Addr, Call};
-use itoa::Buffer;
-use std::str;
 
 /// Where a line stops to be one of the script's.
 #[derive(Clone, Copy, Debug, PartialEq, Eq)]
@@ -40,134 +39,222 @@ pub struct Line {
     pub what: What,
 }
 
-/// A number that was read, and where its token ends.
+/// The bytes that a call gives.
 #[derive(Clone, Copy)]
-struct Number {
-    value: u32,
-    end: usize,
+enum Given<'a> {
+    Nothing,
+    /// Those that pairs of hexadecimal digits spell.
+    Digits(&'a [u8]),
+    /// A track whose record one has so many equal bytes.
+    Filled { at: Addr, count: u16, byte: u8 },
 }
 
-/// The number that a token of decimal digits spells, without a leading zero.
-fn number_in(token: &[u8]) -> Option<u32>
-    ensures spelled { IfSome result (λ n. token.now ≡ decimal n) }
-    ensures none { IfNone result ((n : ℕ) → n < 2 ^ 32 → ¬ (token.now ≡ decimal n)) }
+/// A call and the bytes that it gives.
+#[derive(Clone, Copy)]
+struct Asked<'a> {
+    call: Call,
+    gives: Given<'a>,
+}
+
+/// The words that begin lines.
+#[derive(Clone, Copy)]
+enum Word {
+    Read,
+    Write,
+    Fill,
+    Harden,
+    Display,
+    Check,
+}
+
+/// The read of the address that stands behind the token that ends at `end`.
+fn read_call<'a>(line: &'a [u8], end: usize) -> Result<Asked<'a>, LineFault>
+    requires short { length line.now ≤ LINE_LIMIT }
+    requires within { end ≤ length line.now }
+    ensures asks { AsksFor read_form line.now end result }
+    ensures fits { IfOk result (λ asked. GivenFits asked.gives) }
 {
-    let Ok(text) = str::from_utf8(token) else {
-        return None;
-    };
-    let Ok(number) = text.parse::<u32>() else {
-        return None;
-    };
-    let mut buffer = Buffer::new();
-    if buffer.format(number).as_bytes() == token {
-        Some(number)
+    let place = address_behind(line, end)?;
+    ends_at(line, place.end)?;
+    Ok(Asked {
+        call: Call::Read { at: place.at },
+        gives: Given::Nothing,
+    })
+}
+
+/// The write of the bytes that stand behind an address, which is behind the token that ends at
+/// `end`.
+fn write_call<'a>(line: &'a [u8], end: usize) -> Result<Asked<'a>, LineFault>
+    requires short { length line.now ≤ LINE_LIMIT }
+    requires within { end ≤ length line.now }
+    ensures asks { AsksFor write_form line.now end result }
+    ensures fits { IfOk result (λ asked. GivenFits asked.gives) }
+{
+    let place = address_behind(line, end)?;
+    let digits = digits_behind(line, place.end, 1, 65_535)?;
+    ends_at(line, digits.end)?;
+    Ok(Asked {
+        call: Call::Write { at: place.at },
+        gives: Given::Digits(digits.text),
+    })
+}
+
+/// The byte that a pair of hexadecimal digits spells.
+fn byte_in(digits: &[u8]) -> u8
+    requires { AreDigits digits.now 1 1 }
+    ensures { decoded digits.now ≡ result ∷ [] }
+{
+    let mut byte = [0];
+    let _ = hex::decode_to_slice(digits, &mut byte);
+    byte[0]
+}
+
+/// The write of a track with a record one of equal bytes, by the address, their count and the byte
+/// that stand behind the token that ends at `end`.
+fn fill_call<'a>(line: &'a [u8], end: usize) -> Result<Asked<'a>, LineFault>
+    requires short { length line.now ≤ LINE_LIMIT }
+    requires within { end ≤ length line.now }
+    ensures asks { AsksFor fill_form line.now end result }
+    ensures fits { IfOk result (λ asked. GivenFits asked.gives) }
+{
+    let place = address_behind(line, end)?;
+    let at = place.at;
+    let count = number_behind(line, place.end, 0, 65_498)?;
+    let digits = digits_behind(line, count.end, 1, 1)?;
+    ends_at(line, digits.end)?;
+    let byte = byte_in(digits.text);
+    Ok(Asked {
+        call: Call::Write { at },
+        gives: Given::Filled {
+            at,
+            count: count.value as u16,
+            byte,
+        },
+    })
+}
+
+/// A call without bytes, behind whose word, which ends at `end`, nothing stands.
+fn bare_call<'a>(line: &'a [u8], end: usize, call: Call) -> Result<Asked<'a>, LineFault>
+    requires short { length line.now ≤ LINE_LIMIT }
+    requires within { end ≤ length line.now }
+    ensures asks { (front : List ℕ) → AsksFor (bare_form front call) line.now end result }
+    ensures fits { IfOk result (λ asked. GivenFits asked.gives) }
+{
+    ends_at(line, end)?;
+    Ok(Asked {
+        call,
+        gives: Given::Nothing,
+    })
+}
+
+/// The check at the level that stands behind the token that ends at `end`, and at level 1 where
+/// none does.
+fn check_call<'a>(line: &'a [u8], end: usize) -> Result<Asked<'a>, LineFault>
+    requires short { length line.now ≤ LINE_LIMIT }
+    requires within { end ≤ length line.now }
+    ensures asks { AsksFor check_form line.now end result }
+    ensures fits { IfOk result (λ asked. GivenFits asked.gives) }
+{
+    if end == line.len() {
+        return Ok(Asked {
+            call: Call::Check { level: 1 },
+            gives: Given::Nothing,
+        });
+    }
+    let level = number_behind(line, end, 0, 3)?;
+    ends_at(line, level.end)?;
+    Ok(Asked {
+        call: Call::Check {
+            level: level.value as u8,
+        },
+        gives: Given::Nothing,
+    })
+}
+
+/// The word that a token is.
+fn word_in(token: &[u8]) -> Option<Word>
+    ensures known { IfSome result (λ word. token.now ≡ word_text word) }
+    ensures unknown { IfNone result (form_named forms token.now ≡ None) }
+{
+    if token == b"read".as_slice() {
+        Some(Word::Read)
+    } else if token == b"write".as_slice() {
+        Some(Word::Write)
+    } else if token == b"fill".as_slice() {
+        Some(Word::Fill)
+    } else if token == b"harden".as_slice() {
+        Some(Word::Harden)
+    } else if token == b"sfd".as_slice() {
+        Some(Word::Display)
+    } else if token == b"sfk".as_slice() {
+        Some(Word::Check)
     } else {
         None
     }
 }
 
-/// Where the first blank of a text stands.
-fn first_blank(text: &[u8]) -> Option<usize>
-    ensures { result ≡ position is_blank text.now }
-{
-    text.iter().position(|b| *b == b' ')
-}
-
-/// Where the token that begins at a place of a line ends: at the next blank, or with the line.
-fn token_end(line: &[u8], from: usize) -> usize
-    requires { from ≤ length line.now }
-    ensures begins { from ≤ result }
-    ensures within { result ≤ length line.now }
-    ensures cut { tokens (drop from line.now)
-        ≡ slice_range line.now from result ∷ rest_tokens line.now result }
-{
-    match first_blank(&line[from..]) {
-        Some(length) => from + length,
-        None => line.len(),
-    }
-}
-
-/// The number from `least` to `most` that a token spells.
-fn number_from(token: &[u8], least: u32, most: u32) -> Option<u32>
-    ensures read { IfSome result (λ n. value_of (number least most) token.now ≡ Some (amount n)) }
-    ensures least_is { IfSome result (λ n. least ≤ n) }
-    ensures most_is { IfSome result (λ n. n ≤ most) }
-    ensures none { IfNone result (value_of (number least most) token.now ≡ None) }
-{
-    let number = number_in(token)?;
-    if number < least || most < number {
-        return None;
-    }
-    Some(number)
-}
-
-/// The number from `least` to `most` behind the token that ends at `end`.
-fn number_behind(line: &[u8], end: usize, least: u32, most: u32) -> Result<Number, LineFault>
-    requires short { length line.now ≤ LINE_LIMIT }
-    requires within { end ≤ length line.now }
-    ensures read { IfOk result (IsNumberBehind line.now end least most) }
-    ensures fault { IfErr result (λ fault. IsNone line.now end (number least most) fault.column) }
-{
-    if end == line.len() {
-        return Err(LineFault {
-            column: end as u32 + 1,
-        });
-    }
-    let from = end + 1;
-    let end = token_end(line, from);
-    match number_from(&line[from..end], least, most) {
-        Some(value) => Ok(Number { value, end }),
-        None => Err(LineFault {
-            column: from as u32 + 1,
-        }),
-    }
-}
-
-/// Whether nothing follows the token that ends at `end`.
-fn ends_at(line: &[u8], end: usize) -> Result<(), LineFault>
-    requires short { length line.now ≤ LINE_LIMIT }
-    requires within { end ≤ length line.now }
-    ensures ends { OnOk result (values_behind line.now end [] ≡ Ok []) }
-    ensures fault { IfErr result (λ fault. values_behind line.now end [] ≡ Err fault.column) }
-{
-    if end < line.len() {
-        Err(LineFault {
-            column: end as u32 + 2,
-        })
-    } else {
-        Ok(())
-    }
-}
-
-/// The read of the address that stands behind the token that ends at `end`.
-fn read_call(line: &[u8], end: usize) -> Result<What, LineFault>
-    requires short { length line.now ≤ LINE_LIMIT }
-    requires within { end ≤ length line.now }
-    ensures { AsksFor read_form line.now end result }
-{
-    let cylinder = number_behind(line, end, 0, 65_535)?;
-    let head = number_behind(line, cylinder.end, 0, 65_535)?;
-    ends_at(line, head.end)?;
-    let at = Addr {
-        cyl: cylinder.value as u16,
-        head: head.value as u16,
-    };
-    Ok(What::One {
-        call: Call::Read { at },
-        input_len: 0,
-    })
-}
-
 /// What the word that begins a line asks for with the tokens behind it.
-fn form_call(line: &[u8]) -> Result<What, LineFault>
+fn form_call<'a>(line: &'a [u8]) -> Result<Asked<'a>, LineFault>
     requires { length line.now ≤ LINE_LIMIT }
-    ensures { result ≡ what_in (parsed_tokens (tokens line.now)) }
+    ensures asks { request_in result ≡ parsed_tokens (tokens line.now) }
+    ensures fits { IfOk result (λ asked. GivenFits asked.gives) }
 {
     let end = token_end(line, 0);
-    if &line[..end] == b"read".as_slice() {
-        read_call(line, end)
-    } else {
-        Err(LineFault { column: 1 })
+    match word_in(&line[..end]) {
+        Some(Word::Read) => read_call(line, end),
+        Some(Word::Write) => write_call(line, end),
+        Some(Word::Fill) => fill_call(line, end),
+        Some(Word::Harden) => bare_call(line, end, Call::Harden),
+        Some(Word::Display) => bare_call(line, end, Call::Display),
+        Some(Word::Check) => check_call(line, end),
+        None => Err(LineFault { column: 1 }),
+    }
+}
+
+/// Puts the bytes that digits spell to the front of a buffer, and answers how many they are.
+fn put_digits(into: &mut [u8], digits: &[u8]) -> usize
+    requires digits { AreDigits digits.now 1 65535 }
+    requires room { 65535 ≤ length into.old }
+    ensures { IsPut 0 result (decoded digits.now) into.old into.new }
+{
+    let count = digits.len() / 2;
+    let _ = hex::decode_to_slice(digits, &mut into[..count]);
+    count
+}
+
+/// Puts the bytes that a call gives to the front of a buffer, and answers how many they are.
+fn put_given(into: &mut [u8], gives: Given) -> u32
+    requires fits { GivenFits gives }
+    requires room { 65535 ≤ length into.old }
+    ensures put { IsPut 0 result (bytes_of gives.entry) into.old into.new }
+    ensures short { result ≤ 65535 }
+{
+    match gives {
+        Given::Nothing => 0,
+        Given::Digits(digits) => put_digits(into, digits) as u32,
+        Given::Filled { at, count, byte } => put_filled(into, at, count, byte) as u32,
+    }
+}
+
+/// What a line that begins with a word asks, whose bytes go to the front of `into`.
+fn parse_call(line: &[u8], into: &mut [u8]) -> Result<Line, LineFault>
+    requires short { length line.now ≤ LINE_LIMIT }
+    requires room { 65535 ≤ length into.old }
+    ensures parsed { result ≡ line_in (parsed_tokens (tokens line.now)) }
+    ensures given { IsPut 0 (length (given_in (parsed_tokens (tokens line.now))))
+        (given_in (parsed_tokens (tokens line.now))) into.old into.new }
+    ensures few { length (given_in (parsed_tokens (tokens line.now))) ≤ 65535 }
+{
+    match form_call(line) {
+        Ok(asked) => {
+            let input_len = put_given(into, asked.gives);
+            let call = asked.call;
+            Ok(Line {
+                who: None,
+                what: What::One { call, input_len },
+            })
+        }
+        Err(fault) => Err(fault),
     }
 }
 
@@ -182,12 +269,16 @@ pub fn parse_line(line: &[u8], sessions: bool, into: &mut [u8]) -> Result<Line, 
 
     // The bytes of a call stand at the front of `into`; all else of it stays.
     ensures given { IsPut 0 (length (given_in (parsed line.now))) (given_in (parsed line.now)) into.old into.new }
-    ensures spelled { (at : Address) → at.cyl < 2 ^ 16 → at.head < 2 ^ 16
-        → (result ≡ Ok (asks (Call.Read at))) ↔ (line.now ≡ read_line at) }
+    ensures few { length (given_in (parsed line.now)) ≤ 65535 }
+
+    // A line asks for a request exactly where it is a line of it.
+    ensures spelled { (request : Request) → IsAnswered request result (given_in (parsed line.now)) ↔ IsLineOf request line.now }
 {
-    let what = match line.first() {
-        None | Some(b'#') => What::Nothing,
-        Some(_) => form_call(line)?,
-    };
-    Ok(Line { who: None, what })
+    match line.first() {
+        None | Some(b'#') => Ok(Line {
+            who: None,
+            what: What::Nothing,
+        }),
+        Some(_) => parse_call(line, into),
+    }
 }

@@ -1,4 +1,4 @@
-ghost use Rattle.std.specs.Prelude.{◌≡◌, ◌≤◌, length, vec_len, IfOk};
+ghost use Rattle.std.specs.Prelude.{◌≡◌, ◌+◌, ◌≤◌, length, vec_len, IfOk};
 ghost use Rattle.cckd_script.specs.Text.{FitsCall, RefusalFitsCall, answered_length};
 
 use crate::{
@@ -30,6 +30,21 @@ const fn read(cyl: u16, head: u16) -> Result<Line, LineFault> {
     })
 }
 
+/// A line that writes so many bytes as the track at an address.
+const fn write(cyl: u16, head: u16, input_len: u32) -> Result<Line, LineFault> {
+    asks(What::One {
+        call: Call::Write {
+            at: Addr { cyl, head },
+        },
+        input_len,
+    })
+}
+
+/// A line of a call without bytes.
+const fn bare(call: Call) -> Result<Line, LineFault> {
+    asks(What::One { call, input_len: 0 })
+}
+
 /// A line that is wrong at a column.
 const fn wrong(column: u32) -> Result<Line, LineFault> {
     Err(LineFault { column })
@@ -40,6 +55,13 @@ fn zeros(alloc: Global, len: usize) -> Result<Vec<u8>, AllocError>
     ensures { IfOk result (λ buffer. vec_len buffer ≡ len) }
 {
     vec![in alloc; 0; len]
+}
+
+/// Tells whether these bytes stand at a place of a buffer.
+fn stands(rt: &impl Abort, buffer: &[u8], at: usize, bytes: &[u8])
+    requires { at + length bytes.now ≤ length buffer.now }
+{
+    assert_eq!(rt; &buffer[at..at + bytes.len()], bytes);
 }
 
 /// Tells whether the reply to a call that gave three bytes is printed as this line.
@@ -69,7 +91,7 @@ fn turned(rt: &impl Abort, line: &mut [u8], turn: Turn, text: &[u8])
 
 #[test]
 fn lines_are_read_or_wrong_at_their_first_wrong_token(rt: HostRuntime) -> Result<(), Fail> {
-    let rows: [(&[u8], Result<Line, LineFault>); 22] = [
+    let rows: [(&[u8], Result<Line, LineFault>); 21] = [
         (b"read 0 0", read(0, 0)),
         (b"read 41 1", read(41, 1)),
         (b"read 65535 65535", read(65535, 65535)),
@@ -80,7 +102,6 @@ fn lines_are_read_or_wrong_at_their_first_wrong_token(rt: HostRuntime) -> Result
         (b"read 0", wrong(7)),
         (b"read", wrong(5)),
         (b"read ", wrong(6)),
-        (b"write 0 0 00", wrong(1)),
         (b"READ 0 0", wrong(1)),
         (b"reads 0 0", wrong(1)),
         (b" ", wrong(1)),
@@ -97,6 +118,133 @@ fn lines_are_read_or_wrong_at_their_first_wrong_token(rt: HostRuntime) -> Result
     for (line, answer) in rows {
         assert_eq!(rt; parse_line(line, false, &mut into), answer);
     }
+    Ok(())
+}
+
+#[test]
+fn lines_of_write_are_read_or_wrong_at_their_first_wrong_token(
+    rt: HostRuntime,
+) -> Result<(), Fail> {
+    let rows: [(&[u8], Result<Line, LineFault>); 13] = [
+        (b"write 0 0 00", write(0, 0, 1)),
+        (b"write 65535 1 0aFf", write(65535, 1, 2)),
+        (b"write", wrong(6)),
+        (b"write 0", wrong(8)),
+        (b"write 65536 0 00", wrong(7)),
+        (b"write 0 x 00", wrong(9)),
+        (b"write 0 0", wrong(10)),
+        (b"write 0 0 ", wrong(11)),
+        (b"write 0 0 0", wrong(11)),
+        (b"write 0 0 -", wrong(11)),
+        (b"write 0 0 0g", wrong(11)),
+        (b"write 0 0 00 00", wrong(14)),
+        (b"write 0 0 00 ", wrong(14)),
+    ];
+    let mut into = zeros(rt.alloc(), 65_536)?;
+    for (line, answer) in rows {
+        assert_eq!(rt; parse_line(line, false, &mut into), answer);
+    }
+    Ok(())
+}
+
+#[test]
+fn lines_of_fill_are_read_or_wrong_at_their_first_wrong_token(rt: HostRuntime) -> Result<(), Fail> {
+    let rows: [(&[u8], Result<Line, LineFault>); 15] = [
+        (b"fill 0 0 8 aa", write(0, 0, 45)),
+        (b"fill 41 1 0 FF", write(41, 1, 37)),
+        (b"fill 0 0 56795 00", write(0, 0, 56_832)),
+        (b"fill 0 0 65498 00", write(0, 0, 65_535)),
+        (b"fill 0 0 65499 00", wrong(10)),
+        (b"fill 0 0 08 aa", wrong(10)),
+        (b"fill 0 0 x", wrong(10)),
+        (b"fill 0 0 8", wrong(11)),
+        (b"fill 0 0 8 a", wrong(12)),
+        (b"fill 0 0 8 -", wrong(12)),
+        (b"fill 0 0 8 xx", wrong(12)),
+        (b"fill 0 0 8 aabb", wrong(12)),
+        (b"fill 0 0 8 aa ", wrong(15)),
+        (b"fill 0 0 8 aa 0", wrong(15)),
+        (b"filled 0 0 8 aa", wrong(1)),
+    ];
+    let mut into = zeros(rt.alloc(), 65_536)?;
+    for (line, answer) in rows {
+        assert_eq!(rt; parse_line(line, false, &mut into), answer);
+    }
+    Ok(())
+}
+
+#[test]
+fn lines_without_bytes_are_read_or_wrong_at_their_first_wrong_token(
+    rt: HostRuntime,
+) -> Result<(), Fail> {
+    let rows: [(&[u8], Result<Line, LineFault>); 21] = [
+        (b"harden", bare(Call::Harden)),
+        (b"harden ", wrong(8)),
+        (b"harden 0", wrong(8)),
+        (b"Harden", wrong(1)),
+        (b"sfd", bare(Call::Display)),
+        (b"sfd 1", wrong(5)),
+        (b"sfk", bare(Call::Check { level: 1 })),
+        (b"sfk 0", bare(Call::Check { level: 0 })),
+        (b"sfk 3", bare(Call::Check { level: 3 })),
+        (b"sfk 4", wrong(5)),
+        (b"sfk 01", wrong(5)),
+        (b"sfk ", wrong(5)),
+        (b"sfk 1 0", wrong(7)),
+        (b"sfk 1 ", wrong(7)),
+        (b"rec 0 0 1", wrong(1)),
+        (b"put 0 0 1 00", wrong(1)),
+        (b"gc 1", wrong(1)),
+        (b"sf+", wrong(1)),
+        (b"sf-", wrong(1)),
+        (b"sfc", wrong(1)),
+        (b"#sfd", asks(What::Nothing)),
+    ];
+    let mut into = zeros(rt.alloc(), 65_536)?;
+    for (line, answer) in rows {
+        assert_eq!(rt; parse_line(line, false, &mut into), answer);
+    }
+    Ok(())
+}
+
+#[test]
+fn the_bytes_given_stand_at_the_front_and_all_else_stays(rt: HostRuntime) -> Result<(), Fail> {
+    let mut into = zeros(rt.alloc(), 65_536)?;
+    into.fill(0xee);
+    let _ = parse_line(b"fill 0 0 8 aa 0", false, &mut into);
+    let _ = parse_line(b"write 0 0 0011 ", false, &mut into);
+    assert!(rt; into.iter().all(|b| *b == 0xee));
+    let _ = parse_line(b"write 0 0 00aFF01b", false, &mut into);
+    stands(&rt, &into, 0, b"\x00\xaf\xf0\x1b\xee");
+    Ok(())
+}
+
+#[test]
+fn a_filled_track_has_one_record_of_equal_bytes(rt: HostRuntime) -> Result<(), Fail> {
+    let mut into = zeros(rt.alloc(), 65_536)?;
+    into.fill(0xee);
+    let _ = parse_line(b"fill 258 3 2 Ab", false, &mut into);
+    stands(&rt, &into, 0, b"\x00\x01\x02\x00\x03");
+    stands(
+        &rt,
+        &into,
+        5,
+        b"\x01\x02\x00\x03\x00\x00\x00\x08\x00\x00\x00\x00\x00\x00\x00\x00",
+    );
+    stands(&rt, &into, 21, b"\x01\x02\x00\x03\x01\x00\x00\x02\xab\xab");
+    stands(&rt, &into, 31, b"\xff\xff\xff\xff\xff\xff\xff\xff\xee");
+    Ok(())
+}
+
+#[test]
+fn a_track_filled_with_no_bytes_is_the_null_track(rt: HostRuntime) -> Result<(), Fail> {
+    let mut into = zeros(rt.alloc(), 65_536)?;
+    let _ = parse_line(b"fill 41 1 0 94", false, &mut into);
+    stands(&rt, &into, 0, b"\x00\x00\x29\x00\x01");
+    stands(&rt, &into, 5, b"\x00\x29\x00\x01\x00\x00\x00\x08");
+    stands(&rt, &into, 13, b"\x00\x00\x00\x00\x00\x00\x00\x00");
+    stands(&rt, &into, 21, b"\x00\x29\x00\x01\x01\x00\x00\x00");
+    stands(&rt, &into, 29, b"\xff\xff\xff\xff\xff\xff\xff\xff\x00");
     Ok(())
 }
 

@@ -1,157 +1,218 @@
 -- A run, from its parts.
-use Rattle.std.proofs.Common.{◌≡◌, ℕ, List, [], codes, IsTrue, None, Some, refl, sym, ◌∙◌, subst, append-nil}
-use Rattle.std.specs.List.{AllByRecursion}
-use Rattle.cckd_base.specs.declared.geometry.Layout.{Layout}
+use Rattle.std.proofs.Common.{◌≡◌, ℕ, List, [], ◌++◌, take, Ok, Err, refl, sym, ◌∙◌, ap, subst, append-nil}
+use Rattle.cckd_base.specs.declared.open_fault.OpenFault.{OpenFault}
+use Rattle.cckd_base.specs.declared.open_fault.OpenFault.TheVariants as open_fault
 use Rattle.cckd_shelf.specs.declared.fault.Faults.{Faults}
-use Rattle.cckd_shelf.specs.declared.shows.Shows.{Ghosts}
-use Rattle.cckd_shelf.specs.declared.fault.Kind.TheVariants.{Reads, Syncs}
+use Rattle.cckd_shelf.specs.declared.shows.Shows.{Ghosts as Showing}
+use Rattle.cckd_shelf.specs.declared.fault.Kind.TheVariants.{Reads, Syncs, Puts}
 use Rattle.cckd_shelf.specs.Events.{output_of}
+use Rattle.cckd_shelf.specs.Frame.{puts, PutsSome}
+use Rattle.cckd_shelf.specs.Outcomes.{AtEach}
 use Rattle.cckd_shelf.specs.Seen.{Seen, seen, Tells}
-use Rattle.cckd_shelf.specs.World.{World, file_of, held_by}
-use Rattle.cckd_script.specs.Text.{Entry, script_text, line}
-use Rattle.cckd_top.specs.declared.halt.Halt.{Halt}
+use Rattle.cckd_shelf.specs.World.{World}
+use Rattle.cckd_script.specs.Text.{line}
+use Rattle.cckd_engine.specs.declared.engine.Engine.{Engine}
+use Rattle.cckd_engine.specs.declared.disk.Disk.{Ghosts as Making}
+use Rattle.cckd_engine.specs.Lines.{HasFront, LinesAt, history_onto}
+use Rattle.cckd_console.specs.Counts.{RoseBy, one_more}
+use Rattle.cckd_console.specs.Saying.{IsSaid, plain_text}
+use Rattle.cckd_console.specs.Served.{Served, all_text, text_in, faults_told}
+use Rattle.cckd_console.specs.Serving.{KeepsLines}
+use Rattle.cckd_console.proofs.CountLemmas.{rose_still, rose_one, rose_later}
+use Rattle.cckd_console.proofs.JoinLemmas.{keeps_twice}
+use Rattle.cckd_console.specs.Saying.{Account, account_of, SaysAll, SaysPart, SaysCut, whole, cut_short}
 use Rattle.cckd_top.specs.declared.halt.Halt.TheVariants as halt
-use Rattle.cckd_top.specs.declared.serving.Stop.{Stop}
-use Rattle.cckd_top.specs.declared.serving.Stop.TheVariants as stop
-use Rattle.cckd_top.specs.Counts.{RoseBy}
-use Rattle.cckd_top.specs.Opening.{ready, HaltRaises}
-use Rattle.cckd_top.specs.Saying.{SaysAll, SaysPart, IsSaid, plain_text}
-use Rattle.cckd_top.specs.Serving.{IsLegal, AreLegal, ServesScript, account_of, untaken, OfTheScript, OfTheTaken, OfAFront}
-use Rattle.cckd_top.specs.Text.{halt_text, halt_status}
-use Rattle.cckd_top.specs.Words.{words_fault, file_word}
-use Rattle.cckd_top.specs.World.{TellsFiles, OnlySays, MakesSome, MakesThenPuts}
-use Rattle.cckd_top.specs.Run.{halted, closed, unscripted, cut, script_limit, halt_faults, ending_account, opening_in, IsHaltCause, OverTheFile, HasFileCause, words_are_bad, file_is_named, HaltMakes, IsBaseSync}
-use Rattle.cckd_top.specs.Explained.{IsExplained, ExplainsFile, Finishes}
-use Rattle.cckd_top.proofs.CountLemmas.{rose_still, rose_one}
-use Rattle.cckd_top.proofs.SayingLemmas.{says_all_from, says_part_from, says_all_to, says_part_to, said_behind}
-use Rattle.cckd_top.proofs.WorldLemmas.{keeps_files_twice, makes_then_puts, only_makes_nothing}
-use Rattle.cckd_top.proofs.MountLemmas.{idle_makes}
+use Rattle.cckd_top.specs.Ended.{EndsScript}
+use Rattle.cckd_top.specs.Explained.{IsExplained, ExplainsDisk, words_are_bad, files_dont_open, disk_is_served, refused, opened}
+use Rattle.cckd_top.specs.Names.{after_binds}
+use Rattle.cckd_top.specs.Opening.{OpensDisk, FailsToOpen, CountsOpening}
+use Rattle.cckd_top.specs.Run.{Way, closed, unscripted, cut, halted, served, unscripted_account, open_fault_told, script_limit, IsTaken, HasPutLines, lines_of}
+use Rattle.cckd_top.specs.Text.{open_fault_text, open_fault_status, halt_text, halt_status}
+use Rattle.cckd_top.specs.Words.{Named, named_disk}
+use Rattle.cckd_top.specs.World.{StayIntact, OnlyMounts, after_mounting}
+use Rattle.cckd_top.proofs.HardenedLemmas.{last_opens}
+use Rattle.cckd_top.proofs.SayingLemmas.{said_behind}
+use Rattle.cckd_top.proofs.WorldLemmas.{KeepsAll, intact_twice, puts_intact, mounting_keeps, binds_keep}
 
--- what a halt did to the counts
-halt_rose : (why : Halt) (a b : Faults) → HaltRaises why a b → RoseBy (halt_faults why) a b
-halt_rose (halt.BadWords n) a b h = rose_still a b h
-halt_rose halt.ReadFault a b h = rose_one Reads a b h
-halt_rose halt.SyncFault a b h = rose_one Syncs a b h
-halt_rose halt.Memory a b h = rose_still a b h
-halt_rose (halt.BadHeader fault) a b h = rose_still a b h
-halt_rose (halt.HasMisfit misfit) a b h = rose_still a b h
-halt_rose halt.NotYet a b h = rose_still a b h
+-- ---- what is done
 
--- a run that halts at its files
-pub file_halts : {S : Type 0} (shows : Ghosts S) (start between end : S) (name : List ℕ) (why : Halt) (status : ℕ)
-    → IsHaltCause name (seen shows start) why → HaltRaises why (shows.faults start) (shows.faults between)
-    → (Tells (seen shows start) → MakesSome (HaltMakes why) (shows.world start) (shows.world between))
-    → IsSaid (plain_text (line (halt_text why)) (halt_status why)) (seen shows between) (seen shows end) status
-    → (Tells (seen shows start) → OnlySays (shows.world between) (shows.world end))
-    → ExplainsFile name (seen shows start) (seen shows end) status
-file_halts shows start between end name why status cause rose makes said only = record {
-  end = halted why;
-  cause = (cause, λ t. (only t).script ∙ (makes t).makes.script);
-  printed = said_behind (seen shows start) (seen shows between) (seen shows end) (λ t. t) [] (line (halt_text why)) (halt_faults why)
-      (halt_status why) status (λ t. (makes t).makes.silent ∙ sym (append-nil (output_of (shows.world start).events)))
-      (halt_rose why (shows.faults start) (shows.faults between) rose) said;
-  makes = λ t. makes_then_puts (HaltMakes why) (shows.world start) (shows.world between) (shows.world end) (makes t) (only t).files;
-}
-
--- the account of an ending that was cut is that of its entries, but for the status
-cut_is : (entries : List Entry) (old new : Seen) → SaysPart (account_of entries) old new → SaysPart (ending_account (cut entries)) old new
-cut_is entries old new says = record { front = says.front; counted = says.counted }
-
--- a run whose script was served
-module _ {S : Type 0} (shows : Ghosts S) (start between served end : S) (name : List ℕ) (l : Layout)
-    (opened : TellsFiles (seen shows start) → opening_in (shows.world start) name ≡ ready l)
-    (base : Tells (seen shows start) → file_of (shows.world between) 0 ≡ held_by (shows.world start) name)
-    (makes : Tells (seen shows start) → MakesSome IsBaseSync (shows.world start) (shows.world between))
-    (still : shows.faults between ≡ shows.faults start)
-  where
-    over_the_file : (entries : List Entry) → AreLegal l (seen shows between) entries → OverTheFile name (seen shows start) entries
-    over_the_file entries legal = record {
-      layout = l;
-      opened = opened;
-      legal = λ t. subst (λ (f : List ℕ). AllByRecursion (IsLegal l f) entries) (base t.0)
-          (legal (t.0, subst IsTrue (sym (makes t.0).makes.sure) t.1));
+-- pieces are put behind a mounting
+mounts_puts : (name : List ℕ) (binds syncs : ℕ) (pieces : List (List ℕ)) (old between new : World) → between ≡ after_mounting name binds syncs old
+    → new.events ≡ puts pieces ++ between.events → new.files ≡ between.files → OnlyMounts name binds syncs old new
+mounts_puts name binds syncs pieces old between new done events files =
+    let keeps = mounting_keeps name binds syncs old in
+    let same : between.files ≡ old.files = ap (λ (w : World). w.files) done ∙ keeps.files in
+    record {
+      pieces = pieces;
+      events = events ∙ ap (λ (w : World). puts pieces ++ w.events) done;
+      files = files ∙ same;
+      intact = intact_twice old between new same (subst (StayIntact old) (sym done) keeps.intact) (puts_intact pieces between new events);
     }
 
-    same_script : Tells (seen shows start) → (shows.world between).script ≡ (shows.world start).script
-    same_script told = (makes told).makes.script
+-- ---- a run that halts
 
-    silent : Tells (seen shows start) → output_of (shows.world between).events ≡ output_of (shows.world start).events
-    silent told = (makes told).makes.silent
+-- what files did to the counts that don't open
+told_rose : (why : OpenFault) (a b : Faults) → CountsOpening why a b → RoseBy (open_fault_told why) a b
+told_rose (open_fault.Header slot fault) a b h = rose_still a b h
+told_rose (open_fault.Gap slot) a b h = rose_still a b h
+told_rose (open_fault.Mismatch slot base found) a b h = rose_still a b h
+told_rose (open_fault.Scan slot fault) a b h = rose_still a b h
+told_rose open_fault.ReadFault a b h = rose_one Reads a b h
+told_rose open_fault.WriteFault a b h = rose_still a b h
+told_rose open_fault.SyncFault a b h = rose_one Syncs a b h
+told_rose open_fault.Memory a b h = rose_still a b h
 
-    pub file_served : (code : ℕ) (why : Stop) → ServesScript l script_limit (seen shows between) (seen shows served) why
-        → Finishes why (seen shows served) (seen shows end) code → ExplainsFile name (seen shows start) (seen shows end) code
-    file_served code (stop.Closed status) serves finishes =
-        let same = finishes.0 in
+-- a run whose files don't open
+pub disk_fails : {S : Type 0} (shows : Showing S) (start between end : S) (name : List ℕ) (why : OpenFault) (status : ℕ)
+    → FailsToOpen name why (seen shows start) (seen shows between)
+    → IsSaid (plain_text (line (open_fault_text why)) (open_fault_status why)) (seen shows between) (seen shows end) status
+    → PutsSome (line (open_fault_text why)) (seen shows between) (seen shows end)
+    → ExplainsDisk name (seen shows start) (seen shows end) status
+disk_fails shows start between end name why status fails said puts = record {
+  end = halted (halt.Files why);
+  cause = refused why refl (record {
+    cause = fails.cause;
+    does = λ told.
+        let done = fails.done told in
+        let front = puts told in
         record {
-          end = closed serves.entries;
-          cause = (
-            over_the_file serves.entries serves.legal,
-            λ told.
-                subst (λ (v : World). OfTheScript script_limit (shows.world start).script v.script serves.entries) (sym (same.world told))
-                (subst (λ (s : List ℕ). OfTheScript script_limit s (shows.world served).script serves.entries) (same_script told)
-                (serves.stops.0 told)),
-          );
-          printed = subst (SaysAll (account_of serves.entries) (seen shows start) (seen shows end)) (sym finishes.1)
-              (says_all_to (account_of serves.entries) (seen shows start) (seen shows served) (seen shows end) (λ t. t) same status
-              (says_all_from (account_of serves.entries) (seen shows start) (seen shows between) (seen shows served) (λ t. t) silent still status
-              serves.stops.1));
-          makes = λ told. subst (MakesThenPuts IsBaseSync (shows.world start)) (sym (same.world told))
-              (makes_then_puts IsBaseSync (shows.world start) (shows.world between) (shows.world served) (makes told) (serves.files told));
-        }
-    file_served code stop.Unscripted serves finishes =
-        let said = says_all_from (untaken (account_of serves.entries)) (seen shows start) (seen shows between) (seen shows served) (λ t. t)
-        silent still _ serves.stops.1 in
-        record {
-          end = unscripted serves.entries;
-          cause = (
-            over_the_file serves.entries serves.legal,
-            λ told.
-                subst (λ (left : List ℕ). OfTheTaken script_limit (shows.world start).script left serves.entries)
-                (sym (finishes.1 told).script)
-                (subst (λ (s : List ℕ). OfTheTaken script_limit s (shows.world served).script serves.entries) (same_script told)
-                (serves.stops.0 told)),
-          );
-          printed = said_behind (seen shows start) (seen shows served) (seen shows end) (λ t. t) (script_text serves.entries)
-              (line (codes "fault: source")) (untaken (account_of serves.entries)).failed 7 code said.put said.counted finishes.0;
-          makes = λ told. makes_then_puts IsBaseSync (shows.world start) (shows.world between) (shows.world end) (makes told)
-              (keeps_files_twice (shows.world between) (shows.world served) (shows.world end) (serves.files told) (finishes.1 told).files);
-        }
-    file_served code stop.Cut serves finishes =
-        let same = finishes.0 in
-        record {
-          end = cut serves.entries;
-          cause = (
-            over_the_file serves.entries serves.legal,
-            λ told. subst (λ (s : List ℕ). OfAFront script_limit s serves.entries) (same_script told) (serves.stops.0 told),
-          );
-          printed = (
-            cut_is serves.entries (seen shows start) (seen shows end) (says_part_to (account_of serves.entries) (seen shows start) (seen shows served) (seen shows end) (λ t. t) same
-                (says_part_from (account_of serves.entries) (seen shows start) (seen shows between) (seen shows served) (λ t. t) silent still
-                serves.stops.1)),
-            finishes.1,
-          );
-          makes = λ told. subst (MakesThenPuts IsBaseSync (shows.world start)) (sym (same.world told))
-              (makes_then_puts IsBaseSync (shows.world start) (shows.world between) (shows.world served) (makes told) (serves.files told));
-        }
-
--- words that name a file
-pub words_named : (words : List (List ℕ)) (old new : Seen) (name : List ℕ) (status : ℕ)
-    → words_fault words ≡ None → name ≡ file_word words → ExplainsFile name old new status → IsExplained words old new status
-words_named words old new name status good is file = record {
-  end = file.end;
-  cause = file_is_named good (subst (λ (n : List ℕ). HasFileCause n old new file.end) is file.cause);
-  printed = file.printed;
-  makes = file.makes;
+          binds = done.binds;
+          syncs = done.syncs;
+          few = done.few;
+          short = done.short;
+          does = mounts_puts name done.binds done.syncs front.put.pieces (shows.world start) (shows.world between) (shows.world end) done.done
+              front.put.events front.put.files;
+          script = front.put.script ∙ ap (λ (w : World). w.script) done.done
+              ∙ (mounting_keeps name done.binds done.syncs (shows.world start)).script;
+        };
+  });
+  printed = said_behind (seen shows start) (seen shows between) (seen shows end) (λ t. t) [] (line (open_fault_text why)) (open_fault_told why)
+      (open_fault_status why) status
+      (λ told.
+      let done = fails.done told in
+      ap (λ (w : World). output_of w.events) done.done ∙ (mounting_keeps name done.binds done.syncs (shows.world start)).output
+      ∙ sym (append-nil (output_of (shows.world start).events)))
+      (told_rose why (shows.faults start) (shows.faults between) fails.counts) said;
 }
 
 -- words that are wrong
-pub words_halt : (words : List (List ℕ)) (old new : Seen) (n status : ℕ) → words_fault words ≡ Some n
-    → IsSaid (plain_text (line (halt_text (halt.BadWords n))) (halt_status (halt.BadWords n))) old new status
-    → (Tells old → OnlySays old.world new.world) → IsExplained words old new status
-words_halt words old new n status bad said only = record {
+pub words_halt : {S : Type 0} (shows : Showing S) (start end : S) (words : List (List ℕ)) (n status : ℕ) → named_disk words ≡ Err n
+    → IsSaid (plain_text (line (halt_text (halt.BadWords n))) (halt_status (halt.BadWords n))) (seen shows start) (seen shows end) status
+    → PutsSome (line (halt_text (halt.BadWords n))) (seen shows start) (seen shows end)
+    → IsExplained words (seen shows start) (seen shows end) status
+words_halt shows start end words n status bad said puts = record {
   end = halted (halt.BadWords n);
-  cause = words_are_bad n bad refl (λ t. (only t).script);
+  cause = words_are_bad n bad refl (record {
+    does = λ told.
+        let front = puts told in
+        mounts_puts [] 0 0 front.put.pieces (shows.world start) (shows.world start) (shows.world end) refl front.put.events front.put.files;
+    script = λ told. (puts told).put.script;
+  });
   printed = said;
-  makes = λ t. makes_then_puts (HaltMakes (halt.BadWords n)) old.world old.world new.world (idle_makes _ old.world old.world refl (only_makes_nothing old.world))
-      (only t).files;
 }
+
+-- words that name a disk
+pub words_name : (words : List (List ℕ)) (old new : Seen) (disk : Named) (status : ℕ) → named_disk words ≡ Ok disk
+    → ExplainsDisk disk.file old new status → IsExplained words old new status
+words_name words old new disk status good explains = record {
+  end = explains.end;
+  cause = elim explains.cause [
+    | refused why is cause ↦ files_dont_open disk good why is cause
+    | opened way xs is cause ↦ disk_is_served disk good way xs is cause
+  ];
+  printed = explains.printed;
+}
+
+-- ---- a run that serves a disk
+
+-- what was put and counted behind a mounting that put nothing and failed in nothing
+module _ (a b c : Seen) (tells : Tells a → Tells b) (silent : Tells a → output_of b.world.events ≡ output_of a.world.events) (still : b.faults ≡ a.faults) where
+  all_from : (told : Account) (status : ℕ) → SaysAll told b c status → SaysAll told a c status
+  all_from told status says = record {
+    put = λ t. says.put (tells t) ∙ ap (λ (s : List ℕ). s ++ told.text) (silent t);
+    asked = says.asked;
+    counted = rose_later told.failed a.faults b.faults c.faults still says.counted;
+  }
+
+  part_from : (told : Account) → SaysPart told b c → SaysPart told a c
+  part_from told says = record {
+    front = λ t.
+        let front = says.front (tells t) in
+        record { count = front.count; front = front.front ∙ ap (λ (s : List ℕ). s ++ take front.count told.text) (silent t) };
+    counted = rose_later (one_more Puts told.failed) a.faults b.faults c.faults still says.counted;
+  }
+
+  said_from : (told : Account) (status : ℕ) → IsSaid told b c status → IsSaid told a c status
+  said_from told status said = elim said [
+    | whole says ↦ whole (all_from told status says)
+    | cut_short says is ↦ cut_short (part_from told says) is
+  ]
+
+  cut_from : (xs : List Served) → SaysCut xs b c → SaysCut xs a c
+  cut_from xs says = record {
+    earlier = says.earlier;
+    last = says.last;
+    are = says.are;
+    front = λ t. subst (λ (s : List ℕ). HasFront (s ++ all_text says.earlier) (text_in says.last) (output_of c.world.events)) (silent t) (says.front (tells t));
+    counted = rose_later (one_more Puts (faults_told xs)) a.faults b.faults c.faults still says.counted;
+  }
+
+  lines_from : (way : Way) (xs : List Served) (status : ℕ) → HasPutLines way xs b c status → HasPutLines way xs a c status
+  lines_from closed xs status says = all_from (account_of xs) status says
+  lines_from unscripted xs status says = said_from (unscripted_account xs) status says
+  lines_from cut xs status says = (cut_from xs says.0, says.1)
+
+-- a run whose files open
+pub disk_served : {S D : Type 0} (shows : Showing S) (makes : Making D) (start end : S) (engine : Engine S D) (name : List ℕ) (status : ℕ)
+    → OpensDisk shows makes name start engine → EndsScript shows makes script_limit engine end status
+    → ExplainsDisk name (seen shows start) (seen shows end) status
+disk_served shows makes start end engine name status opens ends =
+    let old = shows.world start in
+    let mid = shows.world engine.stage in
+    let g = makes.geometry engine.disk in
+    let mid_keeps : Tells (seen shows start) → KeepsAll old mid =
+    λ told. subst (KeepsAll old) (sym (opens.done told).done) (mounting_keeps name 9 (opens.done told).count old) in
+    record {
+      end = served ends.way ends.served;
+      cause = opened ends.way ends.served refl (record {
+        taken = λ told. subst (λ (s : List ℕ). IsTaken ends.way script_limit s (shows.world end).script ends.served) (mid_keeps told).script (ends.taken told);
+        runs = record {
+          geometry = g;
+          mounted = opens.mounted;
+          alone = ends.alone;
+          legal = λ s0 at. ends.legal s0 at.tells.0 (opens.stands s0 at);
+          stops = λ s0 at snug nothing.
+              let told = at.tells.0 in
+              let done = opens.done told in
+              let stopped = opens.stops s0 at snug nothing in
+              let bound = after_binds name 9 old in
+              let out : output_of bound.events ≡ output_of old.events = (binds_keep name 9 old).output in
+              let first : KeepsLines g s0 [] [] (output_of bound.events) bound.events mid.events =
+              subst (λ (s : List ℕ). KeepsLines g s0 [] [] s bound.events mid.events) (sym out) stopped.keeps in
+              let second = ends.stops s0 told (opens.stands s0 at) stopped.agrees stopped.keeps.after in
+              let all = keeps_twice g s0 [] [] (lines_of ends.way ends.served) [] bound.events mid.events (shows.world end).events
+              ((mid_keeps told).output ∙ sym out ∙ sym (append-nil (output_of bound.events))) refl first second in
+              record {
+                count = done.count;
+                row = done.row at.tells.1;
+                behind = record {
+                  newer = second.each.newer;
+                  grown = second.each.grown ∙ ap (λ (w : World). second.each.newer ++ w.events) done.done;
+                };
+                after = all.after;
+                last = λ hard. last_opens g s0 (history_onto (lines_of ends.way ends.served) []) (shows.world end).events hard all.after;
+                each = subst (λ (s : List ℕ). AtEach bound.events (shows.world end).events (LinesAt g s0 [] (lines_of ends.way ends.served) s)) out all.each;
+              };
+          quiet = λ told reads.
+              let done = opens.done told in
+              let puts_only = ends.quiet opens.unchanged reads told in
+              record {
+                count = done.count;
+                row = done.row;
+                does = mounts_puts name 9 done.count puts_only.pieces old mid (shows.world end) done.done puts_only.events puts_only.files;
+              };
+        };
+      });
+      printed = lines_from (seen shows start) (seen shows engine.stage) (seen shows end) (λ t. t) (λ told. (mid_keeps told).output) opens.faults
+          ends.way ends.served status ends.printed;
+    }

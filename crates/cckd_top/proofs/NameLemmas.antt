@@ -7,8 +7,7 @@ use Rattle.std.proofs.lemmas.Slice.Eq.{bytes_eq-Decides}
 use Rattle.std.proofs.lemmas.Str.{IsUtf8-append, IsUtf8-from_ascii}
 use Rattle.cckd_shelf.specs.Events.{Bound, is_name, name_of}
 use Rattle.cckd_shelf.specs.World.{World, held_by, after_bind}
-use Rattle.cckd_top.specs.Names.{slot_name}
-use Rattle.cckd_top.specs.World.{AreNamed}
+use Rattle.cckd_top.specs.Names.{slot_name, AreNamed}
 
 ascii_digit : (k : ℕ) → k ≤ 8 → IsAscii ((48 + k) ∷ [])
 ascii_digit k small zero = omega arith

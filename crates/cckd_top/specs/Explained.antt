@@ -1,37 +1,52 @@
 -- The promise of a run.
-use Rattle.std.specs.Prelude.{◌≡◌, ℕ, List, codes}
+use Rattle.std.specs.Prelude.{◌≡◌, ℕ, List, [], Ok, Err}
+use Rattle.cckd_base.specs.declared.open_fault.OpenFault.{OpenFault}
 use Rattle.cckd_shelf.specs.Seen.{Seen, Tells}
-use Rattle.cckd_script.specs.Text.{line}
-use Rattle.cckd_top.specs.declared.serving.Stop.{Stop}
-use Rattle.cckd_top.specs.declared.serving.Stop.TheVariants as stop
-use Rattle.cckd_top.specs.Saying.{IsSaid, plain_text}
-use Rattle.cckd_top.specs.Run.{Ending, HasFileCause, HasCause, HasPut, EndingMakes}
-use Rattle.cckd_top.specs.World.{OnlySays, MakesThenPuts}
+use Rattle.cckd_stack.specs.Mounting.{IsMountCause}
+use Rattle.cckd_console.specs.Served.{Served}
+use Rattle.cckd_top.specs.declared.halt.Halt.TheVariants as halt
+use Rattle.cckd_top.specs.Words.{Named, named_disk}
+use Rattle.cckd_top.specs.World.{OnlyMounts, GivesUp}
+use Rattle.cckd_top.specs.Run.{Ending, halted, served, Way, script_limit, IsTaken, HasPut}
+use Rattle.cckd_top.specs.Disk.{with_files, RunsDisk}
 
--- One ending, with its cause in the words, and in the files and the script as they were at the start, explains the output, the
--- status and each count of faults; no file is changed, and slot 0 is synced before anything is put. It is said of what a stage
--- shows at the start and at the end of a run with these words.
+-- A run with wrong words puts a line, and does nothing else.
+pub record DoesNothing (old new : Seen) : Type 0 where
+  pub does : Tells old → OnlyMounts [] 0 0 old.world new.world
+  pub script : Tells old → new.world.script ≡ old.world.script
+
+-- The files of a disk don't open: their first case, as they were at the start, or a call that failed, or want of memory.
+pub record IsRefused (name : List ℕ) (why : OpenFault) (old new : Seen) : Type 0 where
+  pub cause : IsMountCause (with_files name old) why
+  pub does : Tells old → GivesUp name why old.world new.world
+
+-- The files of a disk open, and the script was served over them.
+pub record IsServed (name : List ℕ) (way : Way) (xs : List Served) (old new : Seen) : Type 0 where
+  pub taken : Tells old → IsTaken way script_limit old.world.script new.world.script xs
+  pub runs : RunsDisk name way xs old new
+
+-- why a run ends so, and what it did: the words are wrong, or they name a disk, which doesn't open or is served
+pub data HasCause (words : List (List ℕ)) (old new : Seen) (end : Ending) : Type 0 where
+  words_are_bad : (n : ℕ) → named_disk words ≡ Err n → end ≡ halted (halt.BadWords n) → DoesNothing old new → HasCause words old new end
+  files_dont_open : (disk : Named) → named_disk words ≡ Ok disk → (why : OpenFault) → end ≡ halted (halt.Files why)
+      → IsRefused disk.file why old new → HasCause words old new end
+  disk_is_served : (disk : Named) → named_disk words ≡ Ok disk → (way : Way) → (xs : List Served) → end ≡ served way xs
+      → IsServed disk.file way xs old new → HasCause words old new end
+
+-- One ending, with its cause in the words, the files and the script as they were at the start, explains what was done, the
+-- output, the status and each count of faults. It is said of what a stage shows at the start and at the end of a run with these
+-- words.
 pub record IsExplained (words : List (List ℕ)) (old new : Seen) (status : ℕ) : Type 0 where
   pub end : Ending
   pub cause : HasCause words old new end
-  pub printed : HasPut old new status end
-  pub makes : Tells old → MakesThenPuts (EndingMakes end) old.world new.world
+  pub printed : HasPut end old new status
 
--- the same of a run on the disk of a file
-pub record ExplainsFile (name : List ℕ) (old new : Seen) (status : ℕ) : Type 0 where
+-- the same of a run on a disk
+pub data DiskCause (name : List ℕ) (old new : Seen) (end : Ending) : Type 0 where
+  refused : (why : OpenFault) → end ≡ halted (halt.Files why) → IsRefused name why old new → DiskCause name old new end
+  opened : (way : Way) → (xs : List Served) → end ≡ served way xs → IsServed name way xs old new → DiskCause name old new end
+
+pub record ExplainsDisk (name : List ℕ) (old new : Seen) (status : ℕ) : Type 0 where
   pub end : Ending
-  pub cause : HasFileCause name old new end
-  pub printed : HasPut old new status end
-  pub makes : Tells old → MakesThenPuts (EndingMakes end) old.world new.world
-
--- nothing happened
-pub record IsSame (old new : Seen) : Type 0 where
-  pub world : Tells old → new.world ≡ old.world
-  pub faults : new.faults ≡ old.faults
-
--- what is put behind a script that was served, and the status
-abbrev pub Finishes : Stop → Seen → Seen → ℕ → Type 0
-Finishes (stop.Closed code) old new status = IsSame old new × (status ≡ code)
-Finishes stop.Unscripted old new status =
-    IsSaid (plain_text (line (codes "fault: source")) 7) old new status × (Tells old → OnlySays old.world new.world)
-Finishes stop.Cut old new status = IsSame old new × (status ≡ 7)
+  pub cause : DiskCause name old new end
+  pub printed : HasPut end old new status

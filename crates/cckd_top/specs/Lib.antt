@@ -1,11 +1,9 @@
 pub mod Words
 pub mod Names
 pub mod World
-pub mod Counts
-pub mod Saying
-pub mod Opening
-pub mod Reading
-pub mod Serving
 pub mod Text
 pub mod Run
+pub mod Disk
+pub mod Opening
+pub mod Ended
 pub mod Explained

@@ -1,88 +1,71 @@
--- What a disk's files are found to be.
-use Rattle.std.specs.Prelude.{◌≡◌, ⊤, ℕ, Bool, if◌then◌else◌, List, [], ◌∷◌, length, Option, Some, None, Result, Ok, Err}
-use Rattle.cckd_base.specs.declared.geometry.Layout.{Layout}
-use Rattle.cckd_base.specs.declared.fault.HeaderFault.{HeaderFault}
-use Rattle.cckd_base.specs.declared.misfit.Misfit.{Misfit}
-use Rattle.cckd_base.specs.Image.{IsHeaded, IsSound}
-use Rattle.cckd_base.specs.Header.{base_identifier, headers_of, header_fault, layout_of}
-use Rattle.cckd_base.specs.Survey.{misfits}
-use Rattle.cckd_tables.specs.Scan.{first_misfit}
+-- What becomes of the files of a disk when they are opened.
+use Rattle.std.specs.Prelude.{◌≡◌, ◌<◌, ◌≤◌, ℕ, false, List, [], Result, Ok, Err}
+use Rattle.cckd_base.specs.declared.open_fault.OpenFault.{OpenFault}
+use Rattle.cckd_base.specs.declared.open_fault.OpenFault.TheVariants as open_fault
+use Rattle.cckd_shelf.specs.declared.shows.Shows.{Ghosts as Showing}
 use Rattle.cckd_shelf.specs.declared.fault.Faults.{Faults}
 use Rattle.cckd_shelf.specs.declared.fault.Kind.TheVariants.{Reads, Syncs}
 use Rattle.cckd_shelf.specs.Faults.{Raises}
-use Rattle.cckd_shelf.specs.Seen.{Seen}
-use Rattle.cckd_shelf.specs.World.{file_of}
-use Rattle.cckd_top.specs.declared.halt.Halt.{Halt}
-use Rattle.cckd_top.specs.declared.halt.Halt.TheVariants as halt
-use Rattle.cckd_top.specs.World.{TellsFiles}
+use Rattle.cckd_shelf.specs.Events.{output_of}
+use Rattle.cckd_shelf.specs.Seen.{Seen, seen, Tells}
+use Rattle.cckd_shelf.specs.World.{World, IsSure}
+use Rattle.cckd_stack.specs.Layers.{Stack}
+use Rattle.cckd_stack.specs.Opened.{Opens}
+use Rattle.cckd_stack.specs.Mounting.{IsRow, IsMountCause}
+use Rattle.cckd_stack.specs.Called.{AreSnug}
+use Rattle.cckd_engine.specs.declared.engine.Engine.{Engine}
+use Rattle.cckd_engine.specs.declared.disk.Disk.{Ghosts as Making}
+use Rattle.cckd_engine.specs.Engine.{standing, Stands, Runs, TellsStops}
+use Rattle.cckd_console.specs.Serving.{KeepsLines}
+use Rattle.cckd_top.specs.Names.{files_of, after_binds}
+use Rattle.cckd_top.specs.World.{TellsFiles, NothingIsOpen, after_mounting}
+use Rattle.cckd_top.specs.Disk.{with_files, OpensAt}
 
--- what the files of a disk are found to be
-pub data Opening : Type 0 where
-  bad_header : HeaderFault → Opening
-  has_misfit : Misfit → Opening
-  -- the base is one that is served, and a shadow is there
-  not_yet : Opening
-  ready : Layout → Opening
+-- the nine slots got their files, and each that is there was synced, and nothing else was done
+pub record IsMountedFrom (name : List ℕ) (old new : World) : Type 0 where
+  pub count : ℕ
+  pub row : IsSure old → IsRow (files_of name old) count
+  pub done : new ≡ after_mounting name 9 count old
 
--- the first fault of the headers comes first, then the first misfit of the tables, and then a shadow that is there
-abbrev pub opening_by : Option HeaderFault → List Misfit → Bool → Layout → Opening
-opening_by (Some fault) misfits above l = bad_header fault
-opening_by None (misfit ∷ others) above l = has_misfit misfit
-opening_by None [] above l = if above then not_yet else ready l
+-- what stops leave of a disk that was opened, up to then, is that stack, and it is told what they leave from then on
+pub record StopsOpen {S D : Type 0} (shows : Showing S) (makes : Making D) (name : List ℕ) (s0 : Stack) (old : World) (new : Engine S D) : Type 0 where
+  pub agrees : TellsStops (makes.agrees new.disk) new.broken (shows.world new.stage).events
+  pub keeps : KeepsLines (makes.geometry new.disk) s0 [] [] (output_of old.events) (after_binds name 9 old).events (shows.world new.stage).events
 
--- the fault that the headers of a base have
-abbrev pub base_fault : List ℕ → Option HeaderFault
-base_fault file = header_fault (base_identifier ∷ []) (headers_of file) (length file)
+-- The files of a name opened to an engine that has made no call.
+pub record OpensDisk {S D : Type 0} (shows : Showing S) (makes : Making D) (name : List ℕ) (old : S) (new : Engine S D) : Type 0 where
+  pub calls : new.calls ≡ 0
+  pub heard : new.mute ≡ false
+  pub runs : Runs (makes.tied new.disk) new.broken (seen shows new.stage)
+  pub faults : shows.faults new.stage ≡ shows.faults old
+  pub unchanged : makes.unchanged new.disk
+  pub done : Tells (seen shows old) → IsMountedFrom name (shows.world old) (shows.world new.stage)
+  pub mounted : TellsFiles (seen shows old) → (s0 : Stack) × Opens (makes.geometry new.disk) (files_of name (shows.world old)) s0
+  pub stands : (s0 : Stack) → OpensAt name (makes.geometry new.disk) s0 (seen shows old) → Stands s0 [] (standing shows makes new)
+  pub stops : (s0 : Stack) → OpensAt name (makes.geometry new.disk) s0 (seen shows old) → AreSnug (files_of name (shows.world old))
+      → NothingIsOpen (shows.world old) → StopsOpen shows makes name s0 (shows.world old) new
 
--- the layout that the headers of a file say
-abbrev pub file_layout : List ℕ → Layout
-file_layout file = layout_of (headers_of file)
+-- some slots got their files, and behind nine some were synced
+pub record IsTriedFrom (name : List ℕ) (why : OpenFault) (old new : World) : Type 0 where
+  pub binds : ℕ
+  pub syncs : ℕ
+  pub few : (binds ≤ 9) × (syncs ≤ 9)
+  pub short : binds < 9 → (syncs ≡ 0) × (why ≡ open_fault.ReadFault)
+  pub done : new ≡ after_mounting name binds syncs old
 
--- what the file in slot 0 is found to be, where it is known whether a shadow is there
-abbrev pub opening_of : List ℕ → Bool → Opening
-opening_of file above = opening_by (base_fault file) (misfits (file_layout file) file) above (file_layout file)
+-- a fault of reading or of syncing raised its count and no other, and all else left the counts
+abbrev pub CountsOpening : OpenFault → Faults → Faults → Type 0
+CountsOpening open_fault.ReadFault old new = Raises Reads old new
+CountsOpening open_fault.SyncFault old new = Raises Syncs old new
+CountsOpening _ old new = new ≡ old
 
--- the headers of a base have no fault, and its tables have this misfit first
-pub record IsFirstMisfit (file : List ℕ) (misfit : Misfit) : Type 0 where
-  pub headed : base_fault file ≡ None
-  pub first : first_misfit (misfits (file_layout file) file) ≡ Some misfit
+-- The files of a name don't open.
+pub record FailsToOpen (name : List ℕ) (why : OpenFault) (old new : Seen) : Type 0 where
+  pub cause : IsMountCause (with_files name old) why
+  pub counts : CountsOpening why old.faults new.faults
+  pub done : Tells old → IsTriedFrom name why old.world new.world
 
--- a sound base of this layout
-abbrev pub IsBase : Layout → List ℕ → Type 0
-IsBase l file = IsSound (base_identifier ∷ []) l file
-
--- the headers of a base have no fault, and say this layout; the file has this length
-pub record HasSoundHeaders (file : List ℕ) (l : Layout) (len : ℕ) : Type 0 where
-  pub headed : IsHeaded (base_identifier ∷ []) l file
-  pub measured : len ≡ length file
-
--- Why a survey of a base has no answer. A fault of reading and want of memory say nothing of the file in slot 0.
-abbrev pub IsSurveyCause : Layout → Seen → Halt → Type 0
-IsSurveyCause l old (halt.BadWords n) = ⊥
-IsSurveyCause l old halt.ReadFault = ⊤
-IsSurveyCause l old halt.SyncFault = ⊥
-IsSurveyCause l old halt.Memory = ⊤
-IsSurveyCause l old (halt.BadHeader fault) = ⊥
-IsSurveyCause l old (halt.HasMisfit misfit) = TellsFiles old → first_misfit (misfits l (file_of old.world 0)) ≡ Some misfit
-IsSurveyCause l old halt.NotYet = ⊥
-
--- why a base isn't opened
-abbrev pub IsBaseCause : Seen → Halt → Type 0
-IsBaseCause old (halt.BadWords n) = ⊥
-IsBaseCause old halt.ReadFault = ⊤
-IsBaseCause old halt.SyncFault = ⊥
-IsBaseCause old halt.Memory = ⊤
-IsBaseCause old (halt.BadHeader fault) = TellsFiles old → base_fault (file_of old.world 0) ≡ Some fault
-IsBaseCause old (halt.HasMisfit misfit) = TellsFiles old → IsFirstMisfit (file_of old.world 0) misfit
-IsBaseCause old halt.NotYet = ⊥
-
--- what a halt does to the counts: a fault raises its own, and all else leaves them
-abbrev pub HaltRaises : Halt → Faults → Faults → Type 0
-HaltRaises halt.ReadFault old new = Raises Reads old new
-HaltRaises halt.SyncFault old new = Raises Syncs old new
-HaltRaises _ old new = new ≡ old
-
--- the same of what may halt
-abbrev pub CountsHalt : {A : Type 0} → Result A Halt → Seen → Seen → Type 0
-CountsHalt (Ok found) old new = new.faults ≡ old.faults
-CountsHalt (Err why) old new = HaltRaises why old.faults new.faults
+-- what opening the files of a name comes to
+abbrev pub IsOpening : {S D : Type 0} → Showing S → Making D → List ℕ → S → Result (Engine S D) (S × OpenFault) → Type 0
+IsOpening shows makes name old (Ok engine) = OpensDisk shows makes name old engine
+IsOpening shows makes name old (Err tried) = FailsToOpen name tried.1 (seen shows old) (seen shows tried.0)

@@ -11,6 +11,8 @@ use Rattle.cckd_base.specs.declared.fault.CountField.{CountField}
 use Rattle.cckd_base.specs.declared.fault.CountField.TheVariants as counted
 use Rattle.cckd_base.specs.declared.fault.HeaderFault.{HeaderFault}
 use Rattle.cckd_base.specs.declared.fault.HeaderFault.TheVariants.{NotCckd, BadGeometry, BadCounts, BadNullFormat}
+use Rattle.cckd_base.specs.declared.open_fault.OpenFault.{OpenFault}
+use Rattle.cckd_base.specs.declared.open_fault.OpenFault.TheVariants as open_fault
 use Rattle.cckd_script.specs.Phrase.{words, number, phrase}
 use Rattle.cckd_top.specs.declared.halt.Halt.{Halt}
 use Rattle.cckd_top.specs.declared.halt.Halt.TheVariants as halt
@@ -56,22 +58,35 @@ misfit_text (BadEntry t e) =
 misfit_text (Overlap first second) = codes " overlap" ++ space_text first ++ codes " and" ++ space_text second
 misfit_text (ParentInBase owner) = codes " parent in base" ++ owner_text owner
 
+-- the slot of a file that is refused
+abbrev pub refused_slot : ℕ → List ℕ
+refused_slot slot = phrase (codes "refused: slot") (number slot ∷ [])
+
+-- why the files don't open to a disk
+abbrev pub open_fault_text : OpenFault → List ℕ
+open_fault_text (open_fault.Header slot fault) = refused_slot slot ++ header_fault_text fault
+open_fault_text (open_fault.Gap slot) = phrase (codes "refused: gap at slot") (number slot ∷ [])
+open_fault_text (open_fault.Mismatch slot base found) = phrase (codes "refused: slot") (number slot ∷ words (codes "geometry differs") ∷ [])
+open_fault_text (open_fault.Scan slot misfit) = refused_slot slot ++ misfit_text misfit
+open_fault_text open_fault.ReadFault = phrase (codes "fault: read") []
+open_fault_text open_fault.WriteFault = phrase (codes "fault: write") []
+open_fault_text open_fault.SyncFault = phrase (codes "fault: sync") []
+open_fault_text open_fault.Memory = phrase (codes "no memory") []
+
 -- why a run ends before it looks at its script
 abbrev pub halt_text : Halt → List ℕ
 halt_text (halt.BadWords n) = phrase (codes "bad words at") (number n ∷ [])
-halt_text halt.ReadFault = phrase (codes "fault: read") []
-halt_text halt.SyncFault = phrase (codes "fault: sync") []
-halt_text halt.Memory = phrase (codes "no memory") []
-halt_text (halt.BadHeader fault) = codes "refused: slot 0" ++ header_fault_text fault
-halt_text (halt.HasMisfit misfit) = codes "refused: slot 0" ++ misfit_text misfit
-halt_text halt.NotYet = phrase (codes "refused: not built yet") []
+halt_text (halt.Files why) = open_fault_text why
 
--- and the status that goes with it
+-- the status that goes with files that don't open
+abbrev pub open_fault_status : OpenFault → ℕ
+open_fault_status open_fault.ReadFault = 7
+open_fault_status open_fault.WriteFault = 7
+open_fault_status open_fault.SyncFault = 7
+open_fault_status open_fault.Memory = 8
+open_fault_status _ = 3
+
+-- the status that goes with a halt
 abbrev pub halt_status : Halt → ℕ
 halt_status (halt.BadWords n) = 2
-halt_status halt.ReadFault = 7
-halt_status halt.SyncFault = 7
-halt_status halt.Memory = 8
-halt_status (halt.BadHeader fault) = 3
-halt_status (halt.HasMisfit misfit) = 3
-halt_status halt.NotYet = 3
+halt_status (halt.Files why) = open_fault_status why

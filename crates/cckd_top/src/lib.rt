@@ -1,16 +1,10 @@
-//! The run of `cckdrun`: words, mounting, a script of reads and the lines that it prints.
+//! The run of `cckdrun`: words, the files that they name, a script that is served, and the lines that are printed.
 #![tactic(auto)]
 
-mod answering;
 mod halt;
-mod lookup;
-mod mounting;
 mod names;
 mod plain;
-mod reading;
 mod run;
-mod serving;
-mod shadows;
 mod status;
 #[cfg(test)]
 mod tests;

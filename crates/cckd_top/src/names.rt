@@ -1,12 +1,11 @@
 //! The names of a disk's files, and the slots that get them.
 
-ghost use Rattle.std.specs.Prelude.{◌≡◌, ◌+◌, ◌<◌, ◌≤◌, [], length, take, IsTrue, OnOk};
-ghost use Rattle.cckd_shelf.specs.Seen.{seen, Tells, Makes, Fails};
+ghost use Rattle.std.specs.Prelude.{◌≡◌, ◌+◌, ◌<◌, ◌≤◌, length, take, IsTrue, OnOk, OnErr};
+ghost use Rattle.cckd_shelf.specs.Seen.{seen, Tells, Stays, Makes, Fails};
 ghost use Rattle.cckd_shelf.specs.declared.fault.Kind.TheVariants.{Reads};
 ghost use Rattle.cckd_shelf.specs.World.{after_bind};
-ghost use Rattle.cckd_top.specs.Names.{slot_name};
+ghost use Rattle.cckd_top.specs.Names.{slot_name, after_binds, BindsSome};
 ghost use Rattle.cckd_top.specs.Words.{is_file_word};
-ghost use Rattle.cckd_top.specs.World.{OnlyMakes, AreNamed};
 
 use cckd_base::put_bytes;
 use cckd_shelf::{Failed, Slot, Stage};
@@ -31,7 +30,7 @@ fn put_shadow_name(file: &str, slot: u8, room: &mut [u8]) -> usize
 fn bind<T: Stage>(stage: &mut T, slot: Slot, file: &str) -> Result<(), Failed>
     requires { IsTrue (is_file_word file.now) }
     ensures bound { OnOk result (Makes (after_bind slot (slot_name file.now slot)) (seen T.Shows stage.old) (seen T.Shows stage.new)) }
-    ensures idle { Tells (seen T.Shows stage.old) → OnlyMakes [] (seen T.Shows stage.old).world (seen T.Shows stage.new).world }
+    ensures kept { OnErr result (Stays (seen T.Shows stage.old) (seen T.Shows stage.new)) }
     ensures fails { Fails Reads result (seen T.Shows stage.old) (seen T.Shows stage.new) }
 {
     let number = slot.get();
@@ -46,11 +45,11 @@ fn bind<T: Stage>(stage: &mut T, slot: Slot, file: &str) -> Result<(), Failed>
     }
 }
 
-/// Gives the nine slots their files.
+/// Gives the nine slots their files, from the base's on. Where one can't be had, those below it have theirs.
 pub fn bind_all<T: Stage>(stage: &mut T, file: &str) -> Result<(), Failed>
     requires { IsTrue (is_file_word file.now) }
-    ensures named { Tells (seen T.Shows stage.old) → OnOk result (AreNamed (seen T.Shows stage.new).world file.now 9) }
-    ensures idle { Tells (seen T.Shows stage.old) → OnlyMakes [] (seen T.Shows stage.old).world (seen T.Shows stage.new).world }
+    ensures bound { OnOk result (Makes (after_binds file.now 9) (seen T.Shows stage.old) (seen T.Shows stage.new)) }
+    ensures some { Tells (seen T.Shows stage.old) → OnErr result (BindsSome file.now (seen T.Shows stage.old).world (seen T.Shows stage.new).world) }
     ensures fails { Fails Reads result (seen T.Shows stage.old) (seen T.Shows stage.new) }
 {
     for number in 0..9u8 {

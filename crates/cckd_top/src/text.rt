@@ -3,10 +3,13 @@
 ghost use Rattle.std.specs.Prelude.{◌≡◌, ◌+◌, ◌≤◌, length};
 ghost use Rattle.cckd_base.specs.Put.{IsPut};
 ghost use Rattle.cckd_script.specs.Text.{line as ended};
-ghost use Rattle.cckd_top.specs.Text.{geometry_field, count_field, header_fault_text, owner_text, space_text, misfit_text, halt_text};
+ghost use Rattle.cckd_top.specs.Text.{geometry_field, count_field, header_fault_text, owner_text, space_text, misfit_text, refused_slot, open_fault_text, halt_text};
 
 use crate::halt::Halt;
-use cckd_base::{CountField, Extent, GeoField, HeaderFault, L2Entry, Misfit, Owner, put_bytes};
+use cckd_base::{
+    CountField, Extent, GeoField, Geometry, HeaderFault, L2Entry, Misfit, OpenFault, Owner,
+    put_bytes,
+};
 use cckd_script::{Part, put_phrase};
 
 /// A buffer of so many bytes holds each of these lines.
@@ -151,8 +154,64 @@ fn put_misfit(line: &mut [u8], at: usize, misfit: Misfit) -> usize
     }
 }
 
-/// Puts why a run ends before it looks at its script.
+/// Puts the slot of a file that is refused.
+fn put_refused(line: &mut [u8], slot: u8) -> usize
+    requires { 40 ≤ length line.old }
+    ensures put { IsPut 0 result (refused_slot slot) line.old line.new }
+    ensures short { result ≤ 40 }
+{
+    put_phrase(line, 0, b"refused: slot", &[Part::Number(u64::from(slot))])
+}
+
+/// Puts that a slot has a file above one that has none.
+fn put_gap(line: &mut [u8], slot: u8) -> usize
+    requires { 100 ≤ length line.old }
+    ensures put { IsPut 0 result (open_fault_text (OpenFault.Gap slot)) line.old line.new }
+    ensures short { result ≤ 100 }
+{
+    let parts = [Part::Number(u64::from(slot))];
+    put_phrase(line, 0, b"refused: gap at slot", &parts)
+}
+
+/// Puts that the file of a slot is that of another device.
+fn put_mismatch(line: &mut [u8], slot: u8, base: Geometry, found: Geometry) -> usize
+    requires { 100 ≤ length line.old }
+    ensures put { IsPut 0 result (open_fault_text (OpenFault.Mismatch slot base found)) line.old line.new }
+    ensures short { result ≤ 100 }
+{
+    let parts = [
+        Part::Number(u64::from(slot)),
+        Part::Words(b"geometry differs"),
+    ];
+    put_phrase(line, 0, b"refused: slot", &parts)
+}
+
+/// Puts why the files don't open to a disk.
 #[tactic(auto, using(cckd_base::proofs::PutLemmas::puts_join))]
+fn put_open_fault(line: &mut [u8], why: OpenFault) -> usize
+    requires { 300 ≤ length line.old }
+    ensures put { IsPut 0 result (open_fault_text why) line.old line.new }
+    ensures short { result ≤ 300 }
+{
+    match why {
+        OpenFault::Header { slot, fault } => {
+            let end = put_refused(line, slot);
+            put_header_fault(line, end, fault)
+        }
+        OpenFault::Gap { slot } => put_gap(line, slot),
+        OpenFault::Mismatch { slot, base, found } => put_mismatch(line, slot, base, found),
+        OpenFault::Scan { slot, fault } => {
+            let end = put_refused(line, slot);
+            put_misfit(line, end, fault)
+        }
+        OpenFault::ReadFault => put_phrase(line, 0, b"fault: read", &[]),
+        OpenFault::WriteFault => put_phrase(line, 0, b"fault: write", &[]),
+        OpenFault::SyncFault => put_phrase(line, 0, b"fault: sync", &[]),
+        OpenFault::Memory => put_phrase(line, 0, b"no memory", &[]),
+    }
+}
+
+/// Puts why a run ends before it looks at its script.
 fn put_cause(line: &mut [u8], halt: Halt) -> usize
     requires { 300 ≤ length line.old }
     ensures put { IsPut 0 result (halt_text halt) line.old line.new }
@@ -160,18 +219,7 @@ fn put_cause(line: &mut [u8], halt: Halt) -> usize
 {
     match halt {
         Halt::BadWords(number) => put_phrase(line, 0, b"bad words at", &[Part::Number(number)]),
-        Halt::ReadFault => put_phrase(line, 0, b"fault: read", &[]),
-        Halt::SyncFault => put_phrase(line, 0, b"fault: sync", &[]),
-        Halt::Memory => put_phrase(line, 0, b"no memory", &[]),
-        Halt::BadHeader(fault) => {
-            let end = put_bytes(line, 0, b"refused: slot 0");
-            put_header_fault(line, end, fault)
-        }
-        Halt::HasMisfit(misfit) => {
-            let end = put_bytes(line, 0, b"refused: slot 0");
-            put_misfit(line, end, misfit)
-        }
-        Halt::NotYet => put_phrase(line, 0, b"refused: not built yet", &[]),
+        Halt::Files(why) => put_open_fault(line, why),
     }
 }
 

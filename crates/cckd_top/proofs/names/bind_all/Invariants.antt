@@ -1,5 +1,5 @@
 use Rattle.std.specs.Prelude.{T}
-use Rattle.cckd_top.proofs.Binding.{IsBound}
+use Rattle.cckd_top.proofs.BindLemmas.{IsBound}
 use Rattle.cckd_top.proofs.names.bind_all.Given as goal
 
 abbrev pub invariant-loop-number : goal.invariant-loop-number

@@ -1,0 +1,149 @@
+-- The files of a disk that are opened, from their parts.
+use Rattle.std.proofs.Common.{◌≡◌, ℕ, ◌≤◌, false, List, [], Err, refl, sym, ◌∙◌, ap, subst, arith}
+use Rattle.cckd_base.specs.Header.{headers_of, layout_of, is_present}
+use Rattle.cckd_base.specs.Image.{IsSnug}
+use Rattle.cckd_base.specs.declared.open_fault.OpenFault.{OpenFault}
+use Rattle.cckd_base.specs.declared.open_fault.OpenFault.TheVariants as open_fault
+use Rattle.cckd_shelf.specs.declared.fault.Faults.{Faults}
+use Rattle.cckd_shelf.specs.declared.shows.Shows.{Ghosts as Showing}
+use Rattle.cckd_shelf.specs.declared.fault.Kind.TheVariants.{Reads}
+use Rattle.cckd_shelf.specs.Faults.{Raises}
+use Rattle.cckd_shelf.specs.Events.{Event, output_of}
+use Rattle.cckd_shelf.specs.Seen.{Seen, seen, Tells}
+use Rattle.cckd_shelf.specs.World.{World, IsSure, IsTied, file_of}
+use Rattle.cckd_layer.specs.Mounted.{CountsOpen}
+use Rattle.cckd_stack.specs.Layers.{Stack}
+use Rattle.cckd_stack.specs.Called.{AreSnug}
+use Rattle.cckd_stack.specs.Opened.{Opens}
+use Rattle.cckd_stack.specs.Mounting.{IsRow, IsGap, IsRefused, IsMountCause, SyncsSome, after_syncs}
+use Rattle.cckd_engine.specs.declared.engine.Engine.{Engine}
+use Rattle.cckd_engine.specs.declared.disk.Disk.{Ghosts as Making}
+use Rattle.cckd_engine.specs.Engine.{standing, Stands, Runs, TellsStops}
+use Rattle.cckd_console.specs.Serving.{KeepsLines}
+use Rattle.cckd_top.specs.Disk.{with_files}
+use Rattle.cckd_top.specs.Names.{files_of, after_binds, BindsSome}
+use Rattle.cckd_top.specs.Opening.{OpensDisk, CountsOpening, FailsToOpen}
+use Rattle.cckd_top.proofs.WorldLemmas.{binds_keep}
+use Rattle.cckd_top.proofs.BoundLemmas.{bound_holds, bound_sure, bound_each, opens_by, row_by, syncs_keep_lines}
+
+-- ---- files that don't open
+
+-- the same cause in the same world
+cause_by : (a b : Seen) (why : OpenFault) → (Tells b → Tells a) → (Tells b → a.world ≡ b.world) → IsMountCause a why → IsMountCause b why
+cause_by a b (open_fault.Gap slot) tells e cause = λ t sure.
+    subst (λ (w : World). IsGap (file_of w) slot) (e t) (cause (tells t) (subst IsSure (sym (e t)) sure))
+cause_by a b (open_fault.Header slot fault) tells e cause = λ t sure.
+    subst (λ (w : World). IsRefused (file_of w) (open_fault.Header slot fault)) (e t) (cause (tells t) (subst IsSure (sym (e t)) sure))
+cause_by a b (open_fault.Mismatch slot base found) tells e cause = λ t sure.
+    subst (λ (w : World). IsRefused (file_of w) (open_fault.Mismatch slot base found)) (e t) (cause (tells t) (subst IsSure (sym (e t)) sure))
+cause_by a b (open_fault.Scan slot fault) tells e cause = λ t sure.
+    subst (λ (w : World). IsRefused (file_of w) (open_fault.Scan slot fault)) (e t) (cause (tells t) (subst IsSure (sym (e t)) sure))
+cause_by a b open_fault.ReadFault tells e cause = tt
+cause_by a b open_fault.WriteFault tells e cause = cause
+cause_by a b open_fault.SyncFault tells e cause = tt
+cause_by a b open_fault.Memory tells e cause = tt
+
+counts_opening : (why : OpenFault) (old new : Faults) → CountsOpen {A = ℕ} (Err why) old new → CountsOpening why old new
+counts_opening (open_fault.Gap slot) old new h = h
+counts_opening (open_fault.Header slot fault) old new h = h
+counts_opening (open_fault.Mismatch slot base found) old new h = h
+counts_opening (open_fault.Scan slot fault) old new h = h
+counts_opening open_fault.ReadFault old new h = h
+counts_opening open_fault.WriteFault old new h = h
+counts_opening open_fault.SyncFault old new h = h
+counts_opening open_fault.Memory old new h = h
+
+-- a slot couldn't get its file
+pub fails_to_bind : (name : List ℕ) (old new : Seen) → Raises Reads old.faults new.faults → (Tells old → BindsSome name old.world new.world)
+    → FailsToOpen name open_fault.ReadFault old new
+fails_to_bind name old new rose some = record {
+  cause = tt;
+  counts = rose;
+  done = λ told.
+      let binds = some told in
+      record { binds = binds.count; syncs = 0; few = (omega (arith, binds.few), omega arith); short = λ less. (refl, refl); done = binds.done };
+}
+
+-- the slots have their files, which don't open
+pub fails_to_mount : {S : Type 0} (shows : Showing S) (name : List ℕ) (start bound left : S) (why : OpenFault)
+    → (Tells (seen shows start) → shows.world bound ≡ after_binds name 9 (shows.world start)) → shows.faults bound ≡ shows.faults start
+    → IsMountCause (seen shows bound) why → SyncsSome (seen shows bound) (seen shows left)
+    → CountsOpen {A = ℕ} (Err why) (shows.faults bound) (shows.faults left)
+    → FailsToOpen name why (seen shows start) (seen shows left)
+fails_to_mount shows name start bound left why done still cause syncs counts = record {
+  cause = cause_by (seen shows bound) (with_files name (seen shows start)) why (λ t. t) done cause;
+  counts = counts_opening why (shows.faults start) (shows.faults left) (subst (λ (f : Faults). CountsOpen {A = ℕ} (Err why) f (shows.faults left)) still counts);
+  done = λ told.
+      let some = syncs told in
+      record {
+        binds = 9;
+        syncs = some.count;
+        few = (omega arith, some.few);
+        short = λ less. absurd (omega (arith, less));
+        done = some.done ∙ ap (after_syncs some.count) (done told);
+      };
+}
+
+-- ---- files that open
+
+snug_by : (files others : ℕ → List ℕ) → ((k : ℕ) → k ≤ 8 → files k ≡ others k) → AreSnug files → AreSnug others
+snug_by files others same snug = λ k low there.
+    subst (λ (file : List ℕ). IsSnug (layout_of (headers_of file)) file) (same k low) (snug k low (ap is_present (same k low) ∙ there))
+
+module _ {S D : Type 0} (shows : Showing S) (makes : Making D) (name : List ℕ) (start bound : S) (engine : Engine S D) (count : ℕ)
+    (done : Tells (seen shows start) → shows.world bound ≡ after_binds name 9 (shows.world start)) (still : shows.faults bound ≡ shows.faults start)
+    (tied : Tells (seen shows start) → IsTied (shows.world bound))
+    (synced : Tells (seen shows start) → shows.world engine.stage ≡ after_syncs count (shows.world bound)) (quiet : shows.faults engine.stage ≡ shows.faults bound)
+    (row : Tells (seen shows start) → IsSure (shows.world bound) → IsRow (file_of (shows.world bound)) count)
+    (opens : Tells (seen shows start) → IsSure (shows.world bound) → (s0 : Stack) × Opens (makes.geometry engine.disk) (file_of (shows.world bound)) s0)
+    (stands : Tells (seen shows start) → IsSure (shows.world bound) → (s0 : Stack) → Opens (makes.geometry engine.disk) (file_of (shows.world bound)) s0
+    → Stands s0 [] (standing shows makes engine))
+    (agrees : Tells (seen shows start) → IsSure (shows.world bound) → AreSnug (file_of (shows.world bound))
+    → TellsStops (makes.agrees engine.disk) engine.broken (shows.world engine.stage).events)
+  where
+    holds : Tells (seen shows start) → (k : ℕ) → k ≤ 8 → file_of (shows.world bound) k ≡ files_of name (shows.world start) k
+    holds told = bound_holds name (shows.world start) (shows.world bound) (done told) (tied told)
+
+    held : Tells (seen shows start) → (k : ℕ) → k ≤ 8 → files_of name (shows.world start) k ≡ file_of (shows.world bound) k
+    held told = λ k low. sym (holds told k low)
+
+    sure_there : Tells (seen shows start) → IsSure (shows.world start) → IsSure (shows.world bound)
+    sure_there told sure = bound_sure name (shows.world start) (shows.world bound) (done told) (tied told) sure
+
+    pub opens_disk : engine.calls ≡ 0 → engine.mute ≡ false → Runs (makes.tied engine.disk) engine.broken (seen shows engine.stage)
+        → makes.unchanged engine.disk → OpensDisk shows makes name start engine
+    opens_disk calls heard runs unchanged = record {
+      calls = calls;
+      heard = heard;
+      runs = runs;
+      faults = quiet ∙ still;
+      unchanged = unchanged;
+      done = λ told. record {
+        count = count;
+        row = λ sure. row_by (file_of (shows.world bound)) (files_of name (shows.world start)) count (holds told) (row told (sure_there told sure));
+        done = synced told ∙ ap (after_syncs count) (done told);
+      };
+      mounted = λ t.
+          let some = opens t.0 (sure_there t.0 t.1) in
+          (some.0, opens_by (makes.geometry engine.disk) (file_of (shows.world bound)) (files_of name (shows.world start)) some.0 (holds t.0) some.1);
+      stands = λ s0 at.
+          let told = at.tells.0 in
+          stands told (sure_there told at.tells.1) s0
+          (opens_by (makes.geometry engine.disk) (files_of name (shows.world start)) (file_of (shows.world bound)) s0 (held told) at.opens);
+      stops = λ s0 at snug nothing.
+          let told = at.tells.0 in
+          let w = shows.world bound in
+          let g = makes.geometry engine.disk in
+          let files = files_of name (shows.world start) in
+          let keeps = syncs_keep_lines g files s0 count w at.opens
+          (bound_each name (shows.world start) w (done told) (tied told) nothing) in
+          let out : output_of w.events ≡ output_of (shows.world start).events =
+          ap (λ (x : World). output_of x.events) (done told) ∙ (binds_keep name 9 (shows.world start)).output in
+          record {
+            agrees = agrees told (sure_there told at.tells.1) (snug_by files (file_of w) (held told) snug);
+            keeps = subst (λ (es : List Event). KeepsLines g s0 [] [] (output_of (shows.world start).events) es (shows.world engine.stage).events)
+                (ap (λ (x : World). x.events) (done told))
+                (subst (λ (v : World). KeepsLines g s0 [] [] (output_of (shows.world start).events) w.events v.events) (sym (synced told))
+                (subst (λ (s : List ℕ). KeepsLines g s0 [] [] s w.events (after_syncs count w).events) out keeps));
+          };
+    }

@@ -1,0 +1,74 @@
+-- What a run promises of the disk that it serves.
+use Rattle.std.specs.Prelude.{◌≡◌, ◌++◌, ℕ, true, List, [], ◌∷◌, None}
+use Rattle.cckd_base.specs.declared.geometry.Geometry.{Geometry}
+use Rattle.cckd_shelf.specs.Events.{Event, output_of, file_now}
+use Rattle.cckd_shelf.specs.Seen.{Seen, Tells}
+use Rattle.cckd_shelf.specs.World.{World, IsSure}
+use Rattle.cckd_shelf.specs.Outcomes.{AtEach}
+use Rattle.cckd_stack.specs.Layers.{Stack}
+use Rattle.cckd_stack.specs.History.{Entry, History, IsLegal, broken_at, stack_after}
+use Rattle.cckd_stack.specs.Stops.{Survives, hardens}
+use Rattle.cckd_stack.specs.Moments.{EachOpens}
+use Rattle.cckd_stack.specs.Opened.{Opens}
+use Rattle.cckd_stack.specs.Mounting.{IsRow}
+use Rattle.cckd_stack.specs.Called.{AreSnug}
+use Rattle.cckd_engine.specs.Lines.{Line, LinesAt, history_onto}
+use Rattle.cckd_console.specs.Served.{Served, AreAlone, OnlyRead}
+use Rattle.cckd_top.specs.Names.{files_of, after_binds}
+use Rattle.cckd_top.specs.World.{TellsFiles, NothingIsOpen, OnlyMounts, after_mounting}
+use Rattle.cckd_top.specs.Run.{Way, lines_of, history_of}
+
+-- what a stage shows once the nine slots have the files of a disk
+abbrev pub with_files : List ℕ → Seen → Seen
+with_files name s = record s { world = after_binds name 9 s.world }
+
+-- these events begin with others
+pub record GrowsFrom (old new : List Event) : Type 0 where
+  pub newer : List Event
+  pub grown : new ≡ newer ++ old
+
+-- The nine slots got their files, one after another, and each that is there was synced, the base first. Nothing else was done
+-- to the files.
+pub record OnlyReadsFiles (name : List ℕ) (old new : World) : Type 0 where
+  pub count : ℕ
+  pub row : IsSure old → IsRow (files_of name old) count
+  pub does : OnlyMounts name 9 count old new
+
+-- a history that no call broke, and whose newest call hardened
+pub record EndsHardened (h : History) : Type 0 where
+  pub newest : Entry
+  pub earlier : History
+  pub is : h ≡ newest ∷ earlier
+  pub hardened : hardens newest.request.asked newest.answer.reply ≡ true
+  pub whole : broken_at earlier ≡ None
+
+-- The nine slots got their files, one after another. Behind it each that is there was synced, the base first, and all else comes
+-- behind that. At each operation since the slots have their files whatever a stop leaves opens to what the calls of the whole
+-- lines may leave, and the call of the next one.
+pub record KeepsDisk (name : List ℕ) (g : Geometry) (s0 : Stack) (lines : List Line) (old new : World) : Type 0 where
+  pub count : ℕ
+  pub row : IsRow (files_of name old) count
+  pub behind : GrowsFrom (after_mounting name 9 count old).events new.events
+  pub each : AtEach (after_binds name 9 old).events new.events (LinesAt g s0 [] lines (output_of old.events))
+  -- at the end it opens to what all calls may leave; and behind one that hardened, the files are the stack that the history leaves
+  pub after : EachOpens g (Survives g s0 (history_onto lines [])) new.events
+  pub last : EndsHardened (history_onto lines []) → Opens g (file_now new.events) (stack_after g s0 (history_onto lines []))
+
+-- the files of a disk open to this stack, as they are told at the start
+pub record OpensAt (name : List ℕ) (g : Geometry) (s0 : Stack) (s : Seen) : Type 0 where
+  pub tells : TellsFiles s
+  pub opens : Opens g (files_of name s.world) s0
+
+-- What a run does with the disk of a name that opens, where these calls were served.
+pub record RunsDisk (name : List ℕ) (way : Way) (xs : List Served) (old new : Seen) : Type 0 where
+  pub geometry : Geometry
+  -- the files at the start open to a stack
+  pub mounted : TellsFiles old → (s0 : Stack) × Opens geometry (files_of name old.world) s0
+  -- the calls are of no session, and with their answers they are a legal history of the layered disk from that stack
+  pub alone : AreAlone xs
+  pub legal : (s0 : Stack) → OpensAt name geometry s0 old → IsLegal geometry s0 (history_of xs)
+  -- where each file was snug and nothing stood open, whatever a stop leaves is what the calls may leave
+  pub stops : (s0 : Stack) → OpensAt name geometry s0 old → AreSnug (files_of name old.world) → NothingIsOpen old.world
+      → KeepsDisk name geometry s0 (lines_of way xs) old.world new.world
+  -- where no call writes, each file that is there is synced, and none is changed
+  pub quiet : Tells old → OnlyRead xs → OnlyReadsFiles name old.world new.world
