@@ -6,6 +6,8 @@ import struct
 from dataclasses import dataclass
 from pathlib import Path
 
+import model
+
 IMAGES = Path(__file__).resolve().parent.parent / "images"
 
 INTEGER = {"16": "H", "32": "I", "64": "Q"}
@@ -64,7 +66,17 @@ def origin(name, known):
     return image.read_bytes()
 
 
-def files_of(text, known=None):
+def disk_left(name, options, known, script):
+    """The files of a disk as a script leaves them by the rules, in the place of the known ones."""
+    numbers = dict(zip(options[::2], options[1::2]))
+    if len(options) % 2 or not numbers.keys() <= {"limit", "until"}:
+        raise Wrong(f"no such options: {' '.join(options)}")
+    contents = {each: entry.content for each, entry in known.items() if entry.kind == "file"}
+    found = model.left(contents, name, script, **{which: int(number) for which, number in numbers.items()})
+    return {each: Entry("file", content) for each, content in found.items()}
+
+
+def files_of(text, known=None, script=b""):
     """The entries that a text names; the known ones are those that a file may begin from."""
     known, entries, last = dict(known or {}), {}, None
     for line in text.splitlines():
@@ -76,6 +88,12 @@ def files_of(text, known=None):
                 last = Entry("file")
             case ["file", name, "from", other]:
                 last = Entry("file", origin(other, known))
+            case ["disk", name, *options]:
+                found = disk_left(name, options, known, script)
+                known |= found
+                entries |= found
+                last = None
+                continue
             case ["folder" | "fifo" as kind, name]:
                 last = Entry(kind)
             case ["link", name, "to", other]:
