@@ -23,7 +23,7 @@ use Rattle.cckd_engine.specs.Lines.{of_text, KeepsLine, HasFront, CountsServed}
 use Rattle.cckd_engine.proofs.ServeLemmas.{front_put}
 use Rattle.cckd_console.specs.Counts.{RoseBy, one_more}
 use Rattle.cckd_console.specs.Served.{Served, called, misread, text_in, status_in, reply_status, faults_told}
-use Rattle.cckd_console.specs.Saying.{account_of, SaysAll, SaysCut, if_printed}
+use Rattle.cckd_console.specs.Saying.{account_of, SaysAll, AreCut, if_printed}
 use Rattle.cckd_console.specs.Serving.{OnlyPuts, Serves, AreSaid, ServesItems}
 use Rattle.cckd_console.proofs.CountLemmas.{rose_none, rose_reply, rose_so_far, rose_and_one}
 use Rattle.cckd_console.proofs.SayingLemmas.{text_one, says_none}
@@ -62,13 +62,15 @@ one_said x a c put rose = record {
 
 -- it was cut
 pub one_cut : (x : Served) (a c : Seen) → (Tells a → HasFront (output_of a.world.events) (text_in x) (output_of c.world.events))
-    → RoseBy (one_more Puts (faults_told (x ∷ []))) a.faults c.faults → SaysCut (x ∷ []) a c
+    → RoseBy (one_more Puts (faults_told (x ∷ []))) a.faults c.faults → AreCut (x ∷ []) a c
 one_cut x a c front rose = record {
   earlier = [];
   last = x;
   are = refl;
-  front = λ t. subst (λ (before : List ℕ). HasFront before (text_in x) (output_of c.world.events)) (sym (append-nil (output_of a.world.events))) (front t);
-  counted = rose;
+  said = record {
+    front = λ t. subst (λ (before : List ℕ). HasFront before (text_in x) (output_of c.world.events)) (sym (append-nil (output_of a.world.events))) (front t);
+    counted = rose;
+  };
 }
 
 -- a reply with its line

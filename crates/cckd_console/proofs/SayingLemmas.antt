@@ -1,8 +1,7 @@
 -- What is said in several stretches.
-use Rattle.std.proofs.Common.{◌≡◌, ℕ, ◌+◌, max, List, [], ◌∷◌, ◌++◌, length, map, take, refl, sym, ◌∙◌, ap, subst, arith, append_assoc, append-nil}
+use Rattle.std.proofs.Common.{◌≡◌, ℕ, max, List, [], ◌∷◌, ◌++◌, map, refl, sym, ◌∙◌, ap, subst, arith, append_assoc, append-nil}
 use Rattle.std.proofs.lemmas.Grind.{flat_map-append}
 use Rattle.std.proofs.lemmas.List.{map-append}
-use Rattle.std.proofs.Math.Seq.{take-append-add}
 use Rattle.cckd_shelf.specs.declared.fault.Kind.TheVariants.{Takes}
 use Rattle.cckd_shelf.specs.Faults.{Raises}
 use Rattle.cckd_shelf.specs.Events.{output_of}
@@ -10,7 +9,7 @@ use Rattle.cckd_shelf.specs.Seen.{Seen, Tells}
 use Rattle.cckd_script.specs.Text.{entry_text, script_text}
 use Rattle.cckd_engine.specs.Lines.{HasFront}
 use Rattle.cckd_console.specs.Served.{Served, shown, text_in, all_text, worst}
-use Rattle.cckd_console.specs.Saying.{account_of, untaken, SaysAll, SaysPart, SaysCut}
+use Rattle.cckd_console.specs.Saying.{account_of, untaken, SaysAll, AreCut}
 use Rattle.cckd_console.proofs.CountLemmas.{rose_none, rose_so_far, rose_and_one, rose_with, rose_with_put}
 
 pub worst_twice : (xs ys : List Served) → worst (xs ++ ys) ≡ max (worst xs) (worst ys)
@@ -39,18 +38,20 @@ module _ (a b c : Seen) (tells : Tells a → Tells b) (xs ys : List Served) (sta
     counted = rose_with xs ys a.faults b.faults c.faults so_far.counted says.counted;
   }
 
-  pub says_cut_twice : SaysCut ys b c → SaysCut (xs ++ ys) a c
-  says_cut_twice says = record {
+  pub cut_twice : AreCut ys b c → AreCut (xs ++ ys) a c
+  cut_twice says = record {
     earlier = xs ++ says.earlier;
     last = says.last;
     are = ap (λ (s : List Served). xs ++ s) says.are ∙ sym (append_assoc xs says.earlier (says.last ∷ []));
-    front = λ t.
-        subst (λ (before : List ℕ). HasFront before (text_in says.last) (output_of c.world.events))
-        (ap (λ (s : List ℕ). s ++ all_text says.earlier) (so_far.put t)
-        ∙ append_assoc (output_of a.world.events) (all_text xs) (all_text says.earlier)
-        ∙ ap (λ (s : List ℕ). output_of a.world.events ++ s) (sym (text_twice xs says.earlier)))
-        (says.front (tells t));
-    counted = rose_with_put xs ys a.faults b.faults c.faults so_far.counted says.counted;
+    said = record {
+      front = λ t.
+          subst (λ (before : List ℕ). HasFront before (text_in says.last) (output_of c.world.events))
+          (ap (λ (s : List ℕ). s ++ all_text says.earlier) (so_far.put t)
+          ∙ append_assoc (output_of a.world.events) (all_text xs) (all_text says.earlier)
+          ∙ ap (λ (s : List ℕ). output_of a.world.events ++ s) (sym (text_twice xs says.earlier)))
+          (says.said.front (tells t));
+      counted = rose_with_put xs ys a.faults b.faults c.faults so_far.counted says.said.counted;
+    };
   }
 
   -- nothing is said while a script is taken
@@ -68,21 +69,3 @@ module _ (a b c : Seen) (tells : Tells a → Tells b) (xs ys : List Served) (sta
     asked = so_far.asked;
     counted = rose_and_one Takes (account_of xs).failed a.faults b.faults c.faults so_far.counted rose;
   }
-
--- what was cut is a front of the whole text
-pub part_said : (served : List Served) (a b : Seen) → SaysCut served a b → SaysPart (account_of served) a b
-part_said served a b cut = record {
-  front = λ t.
-      let front = cut.front t in
-      record {
-        count = length (all_text cut.earlier) + front.count;
-        front =
-            front.is ∙ append_assoc (output_of a.world.events) (all_text cut.earlier) (take front.count (text_in cut.last))
-            ∙ ap (λ (s : List ℕ). output_of a.world.events ++ s)
-            (sym (take-append-add (all_text cut.earlier) (text_in cut.last) front.count)
-            ∙ ap (take (length (all_text cut.earlier) + front.count))
-            (ap (λ (s : List ℕ). all_text cut.earlier ++ s) (sym (text_one cut.last)) ∙ sym (text_twice cut.earlier (cut.last ∷ []))
-            ∙ ap all_text (sym cut.are)));
-      };
-  counted = cut.counted;
-}

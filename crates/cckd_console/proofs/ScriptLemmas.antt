@@ -1,14 +1,18 @@
 -- A script that is served line by line: what was asked of it so far, and what is left.
-use Rattle.std.proofs.Common.{◌≡◌, ◌⊎◌, inl, inr, ⊎_elim, ℕ, ◌+◌, ◌<◌, ◌≤◌, nat_lt, true, false, List, [], ◌∷◌, ◌++◌, length, take, drop, refl, sym, ◌∙◌, ap, arith, append-nil, append_assoc, length-append}
+use Rattle.std.proofs.Common.{◌≡◌, ◌⊎◌, inl, inr, ⊎_elim, ℕ, ◌+◌, ◌<◌, ◌≤◌, nat_lt, true, false, List, [], ◌∷◌, ◌++◌, length, map, take, drop, refl, sym, ◌∙◌, ap, arith, append-nil, append_assoc, length-append}
 use Rattle.std.proofs.lemmas.Bool.{cases_lt, lt-ltb, le-ltb, cond-true, cond-false, false≢true}
 use Rattle.std.proofs.lemmas.Grind.{flat_map-append}
+use Rattle.std.proofs.lemmas.List.{drop_all}
 use Rattle.std.proofs.Math.Seq.{take-append-add, drop-append-add}
 use Rattle.cckd_base.specs.declared.call.Call.TheVariants.{Close}
 use Rattle.cckd_script.specs.declared.misread.Misreading.TheVariants as misreading
 use Rattle.cckd_script.specs.Lines.{lines_of, ended_lines, StopsAtLine, HasNoFeed}
 use Rattle.cckd_script.specs.Items.{Item, asked, unread, line_items, items_of_lines, cut_items, script_items}
 use Rattle.cckd_script.proofs.LineLemmas.{lines-append, ended-append, ended_all, stops_more, lines_more, lines_unfed, ended_unfed}
-use Rattle.cckd_lines.specs.Lines.{fed, last, Held, held, text_of, allowance, IsLine, BreaksOff}
+use Rattle.cckd_lines.specs.Lines.{fed, last, Held, held, text_of, pending, allowance, IsPlace, IsLine, BreaksOff}
+use Rattle.cckd_lines.proofs.FillLemmas.{length_pending}
+use Rattle.cckd_console.specs.Served.{Served, item_in}
+use Rattle.cckd_console.specs.Script.{most_ahead, OfALine}
 
 -- A script was served up to here: these items are those of the lines before, and this is left of it. A line without a feed was
 -- the last.
@@ -32,44 +36,75 @@ module _ (limit : ℕ) (script : List ℕ) (now : Held) (items : List Item) (so_
   stops_here some = ⊎_elim (λ (h : StopsAtLine so_far.consumed). h)
       (λ (h : ((text_of now) ≡ []) × (now.place.ended ≡ true)). absurd (omega (arith, some, ap length h.0))) so_far.stops
 
-  -- a line more
-  pub reads_on : (line : List ℕ) (then : Held) → IsLine line now then → IsReadUpTo limit script then (items ++ line_items line)
-  reads_on line then found =
+  -- a line more, which is the last one
+  line_more : (line : List ℕ) (then : Held) → IsLine line now then
+      → (more : IsReadUpTo limit script then (items ++ line_items line)) × (lines_of more.consumed ≡ lines_of so_far.consumed ++ line ∷ [])
+  line_more line then found =
       let stops = stops_here found.some in
       elim found.begins [
-        | fed free is ↦ record {
-          consumed = so_far.consumed ++ (line ++ 10 ∷ []);
-          split =
-              so_far.split ∙ ap (λ (s : List ℕ). so_far.consumed ++ s) (is ∙ sym (append_assoc line (10 ∷ []) (text_of then)))
-              ∙ sym (append_assoc so_far.consumed (line ++ 10 ∷ []) (text_of then));
-          allowed =
-              omega (
-                arith,
-                so_far.allowed,
-                found.shared,
-                length-append so_far.consumed (line ++ 10 ∷ []),
-                length-append line (10 ∷ []),
-                length-append line (10 ∷ (text_of then)),
-                ap length is,
-              );
-          asked =
-              ap (λ (s : List Item). s ++ line_items line) so_far.asked ∙ sym (items_push (lines_of so_far.consumed) line)
-              ∙ sym (ap items_of_lines (lines_more so_far.consumed line stops free));
-          stops = inl (stops_more so_far.consumed line);
-        }
-        | last free is empty at_end ↦ record {
-          consumed = so_far.consumed ++ line;
-          split =
-              so_far.split ∙ ap (λ (s : List ℕ). so_far.consumed ++ s) is
-              ∙ sym (append-nil (so_far.consumed ++ line)) ∙ ap (λ (s : List ℕ). (so_far.consumed ++ line) ++ s) (sym empty);
-          allowed =
-              omega (arith, so_far.allowed, found.shared, length-append so_far.consumed line, ap length is, ap length empty);
-          asked =
-              ap (λ (s : List Item). s ++ line_items line) so_far.asked ∙ sym (items_push (lines_of so_far.consumed) line)
-              ∙ sym (ap items_of_lines (lines_unfed so_far.consumed line stops free (omega (arith, found.some, ap length is))));
-          stops = inr (empty, at_end);
-        }
+        | fed free is ↦ (
+          record {
+            consumed = so_far.consumed ++ (line ++ 10 ∷ []);
+            split =
+                so_far.split ∙ ap (λ (s : List ℕ). so_far.consumed ++ s) (is ∙ sym (append_assoc line (10 ∷ []) (text_of then)))
+                ∙ sym (append_assoc so_far.consumed (line ++ 10 ∷ []) (text_of then));
+            allowed =
+                omega (
+                  arith,
+                  so_far.allowed,
+                  found.shared,
+                  length-append so_far.consumed (line ++ 10 ∷ []),
+                  length-append line (10 ∷ []),
+                  length-append line (10 ∷ (text_of then)),
+                  ap length is,
+                );
+            asked =
+                ap (λ (s : List Item). s ++ line_items line) so_far.asked ∙ sym (items_push (lines_of so_far.consumed) line)
+                ∙ sym (ap items_of_lines (lines_more so_far.consumed line stops free));
+            stops = inl (stops_more so_far.consumed line);
+          },
+          lines_more so_far.consumed line stops free,
+        )
+        | last free is empty at_end ↦ (
+          record {
+            consumed = so_far.consumed ++ line;
+            split =
+                so_far.split ∙ ap (λ (s : List ℕ). so_far.consumed ++ s) is
+                ∙ sym (append-nil (so_far.consumed ++ line)) ∙ ap (λ (s : List ℕ). (so_far.consumed ++ line) ++ s) (sym empty);
+            allowed =
+                omega (arith, so_far.allowed, found.shared, length-append so_far.consumed line, ap length is, ap length empty);
+            asked =
+                ap (λ (s : List Item). s ++ line_items line) so_far.asked ∙ sym (items_push (lines_of so_far.consumed) line)
+                ∙ sym (ap items_of_lines (lines_unfed so_far.consumed line stops free (omega (arith, found.some, ap length is))));
+            stops = inr (empty, at_end);
+          },
+          lines_unfed so_far.consumed line stops free (omega (arith, found.some, ap length is)),
+        )
       ]
+
+  -- a line more
+  pub reads_on : (line : List ℕ) (then : Held) → IsLine line now then → IsReadUpTo limit script then (items ++ line_items line)
+  reads_on line then found = (line_more line then found).0
+
+  -- the line that was served last, and what was taken ahead of it
+  pub of_a_line : (served : List Served) (line : List ℕ) (then : Held) → IsLine line now then → IsPlace then.room then.place
+      → length then.room ≤ most_ahead → map item_in served ≡ items ++ line_items line → 0 < length (line_items line)
+      → OfALine limit script then.script served
+  of_a_line served line then found is short same some =
+      let more = line_more line then found in
+      let ahead = length_pending then.room then.place is in
+      record {
+        read = more.0.consumed;
+        taken = record {
+          ahead = pending then.room then.place;
+          split = more.0.split;
+          ends = ⊎_elim (λ (h : StopsAtLine more.0.consumed). inl h) (λ (h : (text_of then ≡ []) × (then.place.ended ≡ true)). inr h.0) more.0.stops;
+          few = omega (arith, ahead, is.within, short);
+          within = omega (arith, ahead, more.0.allowed);
+        };
+        last = record { earlier = lines_of so_far.consumed; last = line; lines = more.1; asks = some };
+        asked = same ∙ more.0.asked;
+      }
 
   -- the whole script
   pub reads_all : (text_of now) ≡ [] → items ++ asked Close [] ∷ [] ≡ script_items limit script
@@ -81,10 +116,15 @@ module _ (limit : ℕ) (script : List ℕ) (now : Held) (items : List Item) (so_
       ∙ sym (cond-false (nat_lt limit (length script)) (cut_items limit script) _ (le-ltb limit (length script) short))
       )
 
+  -- behind it nothing is left
+  pub none_left : (text_of now) ≡ [] → drop (limit + 1) script ≡ []
+  none_left none =
+      drop_all (limit + 1) script (omega (arith, ap length so_far.split, length-append so_far.consumed (text_of now), ap length none, so_far.allowed))
+
   -- the script up to its limit
   pub reads_limit : (then : Held) → HasNoFeed (take (allowance now.place) (text_of now)) → (allowance now.place) < length (text_of now) → (text_of then) ≡ drop ((allowance now.place) + 1) (text_of now)
-      → ((items ++ unread misreading.ScriptTooLong ∷ []) ++ asked Close [] ∷ [] ≡ script_items limit script) × (limit < length script)
-      × ((text_of then) ≡ drop (limit + 1) script)
+      → ((items ++ unread misreading.ScriptTooLong ∷ []) ++ asked Close [] ∷ [] ≡ script_items limit script)
+      × ((text_of then) ≡ drop (limit + 1) script) × (limit < length script)
   reads_limit then free more one =
       let stops = stops_here (omega (arith, more)) in
       let long : limit < length script = omega (arith, so_far.allowed, ap length so_far.split, length-append so_far.consumed (text_of now), more) in
@@ -98,11 +138,11 @@ module _ (limit : ℕ) (script : List ℕ) (now : Held) (items : List Item) (so_
             ap (λ (s : List Item). s ++ unread misreading.ScriptTooLong ∷ []) items_are
             ∙ sym (cond-true (nat_lt limit (length script)) (cut_items limit script) _ (lt-ltb limit (length script) long))
             ),
-        long,
         one ∙ sym (
             ap (λ (n : ℕ). drop n script) (omega (arith, so_far.allowed)) ∙ ap (drop (length so_far.consumed + ((allowance now.place) + 1))) so_far.split
             ∙ drop-append-add so_far.consumed (text_of now) ((allowance now.place) + 1)
             ),
+        long,
       )
 
   -- the lines that now.place.ended in what was taken

@@ -1,12 +1,12 @@
 -- What the loop that serves a script keeps.
-use Rattle.std.proofs.Common.{◌≡◌, inl, inr, ℕ, ◌+◌, ◌-◌, ◌<◌, ◌≤◌, max, nat_lt, true, false, List, [], ◌∷◌, ◌++◌, length, map, take, drop, Result, Ok, Err, refl, sym, ◌∙◌, ap, subst, arith, append-nil}
+use Rattle.std.proofs.Common.{◌≡◌, ℕ, ◌+◌, ◌-◌, ◌<◌, ◌≤◌, max, nat_lt, true, false, List, [], ◌∷◌, ◌++◌, length, map, take, drop, Result, Ok, Err, refl, sym, ◌∙◌, ap, subst, arith, append-nil, length-append}
 use Rattle.std.proofs.lemmas.Bool.{false≢true, cond-true, lt-ltb}
-use Rattle.std.proofs.lemmas.List.{map-append}
+use Rattle.std.proofs.lemmas.List.{map-append, length-map}
 use Rattle.cckd_shelf.specs.declared.fault.Failed.{Failed}
 use Rattle.cckd_shelf.specs.declared.shows.Shows.{Ghosts as Showing}
 use Rattle.cckd_shelf.specs.declared.fault.Kind.TheVariants.{Takes}
 use Rattle.cckd_shelf.specs.Faults.{Raises}
-use Rattle.cckd_shelf.specs.Seen.{seen, Tells}
+use Rattle.cckd_shelf.specs.Seen.{Seen, seen, Tells}
 use Rattle.cckd_script.specs.declared.misread.Misreading.TheVariants as misreading
 use Rattle.cckd_script.specs.Parse.{parsed}
 use Rattle.cckd_script.specs.Items.{Item, unread, line_items, items_of, script_items}
@@ -21,12 +21,12 @@ use Rattle.cckd_engine.specs.declared.disk.Disk.{Ghosts as Making}
 use Rattle.cckd_engine.specs.Engine.{Runs, IsWithStage}
 use Rattle.cckd_console.specs.declared.stop.Stop.TheVariants as stop
 use Rattle.cckd_console.specs.Served.{Served, item_in}
-use Rattle.cckd_console.specs.Saying.{SaysAll, account_of}
-use Rattle.cckd_console.specs.Script.{items_of_next, calls_of_next, closing, is_last, IsReadOut}
+use Rattle.cckd_console.specs.Saying.{SaysAll, AreCut, account_of}
+use Rattle.cckd_console.specs.Script.{items_of_next, calls_of_next, closing, is_last, IsReadOut, most_ahead, EndsIn, in_a_line, past_the_limit, in_the_close, OfACut, OfTheScript}
 use Rattle.cckd_console.specs.Serving.{Serves, ServesItems, ServesWhole, ServesScript}
-use Rattle.cckd_console.proofs.SayingLemmas.{says_none, says_all_twice, says_cut_twice, says_still, says_untaken}
+use Rattle.cckd_console.proofs.SayingLemmas.{says_none, says_all_twice, cut_twice, says_still, says_untaken}
 use Rattle.cckd_console.proofs.JoinLemmas.{serves_none, serves_twice, serves_taken}
-use Rattle.cckd_console.proofs.ScriptLemmas.{IsReadUpTo, reads_none, reads_on, reads_all, reads_limit, reads_taken, reads_front}
+use Rattle.cckd_console.proofs.ScriptLemmas.{IsReadUpTo, reads_none, reads_on, reads_all, none_left, reads_limit, of_a_line, reads_taken, reads_front}
 
 -- the script was served up to a place of the room
 pub record KeepsServed {S D : Type 0} (shows : Showing S) (makes : Making D) (limit : ℕ) (start now : Engine S D) (room : List ℕ) (place : Place)
@@ -99,10 +99,10 @@ module _ (limit : ℕ) (script : List ℕ) (now then : Held) (items : List Item)
   reads_last left_of_it (next.Line start end) none same is over = absurd (false≢true over)
   reads_last left_of_it next.LineTooLong none same is over = absurd (false≢true over)
   reads_last left_of_it next.ScriptTooLong none same is over =
-      let all = reads_limit limit script now items so_far then is.0 is.1 is.2 in (all.0, inr (all.1, same is.3 ∙ all.2))
+      let all = reads_limit limit script now items so_far then is.0 is.1 is.2 in (all.0, same is.3 ∙ all.1)
   reads_last left_of_it next.End none same is over = (
     ap (λ (s : List Item). s ++ closing) (append-nil items) ∙ reads_all limit script now items so_far is.0,
-    inl (none is.1),
+    none is.1 ∙ sym (none_left limit script now items so_far is.0),
   )
 
   pub reads_some : (found : Next) → IsNext now then found
@@ -115,6 +115,44 @@ module _ (limit : ℕ) (script : List ℕ) (now then : Held) (items : List Item)
       (closing, (reads_last (text_of then) next.ScriptTooLong (λ e. e) (λ _. refl) is refl).0)
   reads_some next.End is =
       (closing, (reads_last (text_of then) next.End (λ e. e) (λ _. refl) is refl).0)
+
+-- what was served last stands in a line, or is the refusal of a script that is too long
+module _ (limit : ℕ) (script : List ℕ) (now then : Held) (items : List Item) (so_far : IsReadUpTo limit script now items) (served : List Served)
+    (is : IsPlace then.room then.place) (short : length then.room ≤ most_ahead)
+  where
+    ends_in : (found : Next) → IsNext now then found → map item_in served ≡ items ++ items_of_next then.room found
+        → 0 < length (items_of_next then.room found) → EndsIn limit script then.script served
+    ends_in (next.Line start end) next asked some =
+        in_a_line (of_a_line limit script now items so_far served (take (end - start) (drop start then.room)) then next.0 is short asked some)
+    ends_in next.LineTooLong next asked some =
+        let long = items_too_long next.0 next.2 in
+        in_a_line (of_a_line limit script now items so_far served next.0 then next.1 is short
+        (asked ∙ ap (λ (more : List Item). items ++ more) (sym long)) (omega (arith, ap length long)))
+    ends_in next.ScriptTooLong next asked some =
+        let all = reads_limit limit script now items so_far then next.0 next.1 next.2 in
+        past_the_limit all.2 (ap (λ (s : List Item). s ++ closing) asked ∙ all.0)
+        (sym (ap (λ (s : List ℕ). s ++ then.script) (none_pending then.room then.place next.3)) ∙ all.1)
+    ends_in next.End next asked some = absurd (omega (arith, some))
+
+    pub of_a_cut : (found : Next) → IsNext now then found → map item_in served ≡ items ++ items_of_next then.room found
+        → 0 < length (items_of_next then.room found) → OfACut limit script then.script served
+    of_a_cut found next asked some =
+        let front = reads_some limit script now then items so_far found next in
+        record {
+          front = (front.0, ap (λ (s : List Item). s ++ front.0) asked ∙ front.1);
+          taken = ends_in found next asked some;
+        }
+
+-- something was cut
+some_cut : (xs : List Served) (items : List Item) (a b : Seen) → map item_in xs ≡ items → AreCut xs a b → 0 < length items
+some_cut xs items a b is cut =
+    omega (
+      arith,
+      ap length is,
+      ap (λ (s : List Served). length (map item_in s)) cut.are,
+      length-map (cut.earlier ++ cut.last ∷ []) item_in,
+      length-append cut.earlier (cut.last ∷ []),
+    )
 
 -- the items of some, and of others behind them
 items_twice : (xs ys : List Served) (items more : List Item) → map item_in xs ≡ items → map item_in ys ≡ more → map item_in (xs ++ ys) ≡ items ++ more
@@ -201,17 +239,19 @@ module _ {S D : Type 0} (shows : Showing S) (makes : Making D) (limit : ℕ) (st
         }
 
     -- the output failed in the line
-    pub is_cut : (then : Engine S D) (fault : Failed)
+    pub is_cut : IsPlace room' behind → length room' ≤ most_ahead → (then : Engine S D) (fault : Failed)
         → (serves : ServesItems shows makes (items_of_next room' found) (calls_of_next found) between then (Err fault))
         → ServesScript shows makes limit start then stop.Cut
-    is_cut then fault serves = record {
+    is_cut is short then fault serves = record {
       served = so_far.served ++ serves.served;
       stops = (
         λ told.
-            let some = reads_some limit (shows.world start.stage).script (held room place (shows.world now.stage).script)
-            (held room' behind (shows.world between.stage).script) (map item_in so_far.served) (so_far.read told) found (is_next told) in
-            (some.0, ap (λ (s : List Item). s ++ some.0) (asked_then then (Err fault) serves) ∙ some.1),
-        says_cut_twice (seen shows start.stage) (seen shows between.stage) (seen shows then.stage) (λ t. t) so_far.served serves.served status
+            subst (λ (left : List ℕ). OfACut limit (shows.world start.stage).script left (so_far.served ++ serves.served)) (sym (serves.script told))
+            (of_a_cut limit (shows.world start.stage).script (held room place (shows.world now.stage).script)
+            (held room' behind (shows.world between.stage).script) (map item_in so_far.served) (so_far.read told) (so_far.served ++ serves.served)
+            is short found (is_next told) (asked_then then (Err fault) serves)
+            (some_cut serves.served (items_of_next room' found) (seen shows between.stage) (seen shows then.stage) serves.asked serves.said)),
+        cut_twice (seen shows start.stage) (seen shows between.stage) (seen shows then.stage) (λ t. t) so_far.served serves.served status
             said_between serves.said,
       );
       does = does_then then (Err fault) serves;
@@ -251,6 +291,13 @@ module _ {S D : Type 0} (shows : Showing S) (makes : Making D) (limit : ℕ) (st
       of_all told =
           items_twice whole.served closes.served (map item_in whole.served) closing refl closes.asked ∙ whole.asked told
 
+      of_the_script : Tells (seen shows start.stage)
+          → OfTheScript limit (shows.world start.stage).script (shows.world end.stage).script (whole.served ++ closes.served)
+      of_the_script told = record {
+        asked = of_all told;
+        read = subst (IsReadOut limit (shows.world start.stage).script) (sym (closes.script told)) (whole.read told);
+      }
+
       does_all : Serves shows makes (whole.served ++ closes.served) start end
       does_all = serves_twice shows makes whole.served closes.served start now end whole.does closes.does whole.said.put
 
@@ -258,10 +305,7 @@ module _ {S D : Type 0} (shows : Showing S) (makes : Making D) (limit : ℕ) (st
     is_closed answer closes = record {
       served = whole.served ++ closes.served;
       stops = (
-        λ told. record {
-          asked = of_all (Ok answer) closes told;
-          read = subst (IsReadOut limit (shows.world start.stage).script) (sym (closes.script told)) (whole.read told);
-        },
+        λ told. of_the_script (Ok answer) closes told,
         says_all_twice (seen shows start.stage) (seen shows now.stage) (seen shows end.stage) (λ t. t) whole.served closes.served status
             whole.said answer closes.said,
       );
@@ -272,8 +316,11 @@ module _ {S D : Type 0} (shows : Showing S) (makes : Making D) (limit : ℕ) (st
     is_cut_at_the_end fault closes = record {
       served = whole.served ++ closes.served;
       stops = (
-        λ told. ([], append-nil (map item_in (whole.served ++ closes.served)) ∙ of_all (Err fault) closes told),
-        says_cut_twice (seen shows start.stage) (seen shows now.stage) (seen shows end.stage) (λ t. t) whole.served closes.served status
+        λ told. record {
+          front = ([], append-nil (map item_in (whole.served ++ closes.served)) ∙ of_all (Err fault) closes told);
+          taken = in_the_close (of_the_script (Err fault) closes told);
+        },
+        cut_twice (seen shows start.stage) (seen shows now.stage) (seen shows end.stage) (λ t. t) whole.served closes.served status
             whole.said closes.said,
       );
       does = does_all (Err fault) closes;

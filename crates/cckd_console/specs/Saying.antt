@@ -1,11 +1,10 @@
 -- What is told of itself: what is put, the status, and the calls that failed.
-use Rattle.std.specs.Prelude.{◌≡◌, ℕ, max, Bool, if◌then◌else◌, List, [], ◌∷◌, ◌++◌, take, Result, Ok, Err}
+use Rattle.std.specs.Prelude.{◌≡◌, ℕ, max, Bool, if◌then◌else◌, List, [], ◌∷◌, ◌++◌, Result, Ok, Err}
 use Rattle.cckd_shelf.specs.declared.fault.Failed.{Failed}
 use Rattle.cckd_shelf.specs.declared.fault.Faults.{Faults}
 use Rattle.cckd_shelf.specs.declared.fault.Kind.TheVariants.{Takes, Puts}
 use Rattle.cckd_shelf.specs.Faults.{no_faults}
 use Rattle.cckd_shelf.specs.Events.{output_of}
-use Rattle.cckd_shelf.specs.World.{World}
 use Rattle.cckd_shelf.specs.Seen.{Seen, Tells}
 use Rattle.cckd_engine.specs.Lines.{HasFront}
 use Rattle.cckd_console.specs.Counts.{RoseBy, one_more}
@@ -35,28 +34,27 @@ pub record SaysAll (told : Account) (old new : Seen) (status : ℕ) : Type 0 whe
   pub asked : status ≡ told.status
   pub counted : RoseBy told.failed old.faults new.faults
 
--- a front of the text was put, and nothing else
-pub record PutsFront (old new : World) (text : List ℕ) : Type 0 where
-  pub count : ℕ
-  pub front : output_of new.events ≡ output_of old.events ++ take count text
+-- An earlier text was put whole and a last line behind it up to some place, and just these calls failed, and one put.
+pub record SaysCut (earlier last : List ℕ) (failed : Faults) (old new : Seen) : Type 0 where
+  pub front : Tells old → HasFront (output_of old.world.events ++ earlier) last (output_of new.world.events)
+  pub counted : RoseBy (one_more Puts failed) old.faults new.faults
 
--- a front of it was put, and just the calls that it tells failed, and one put
-pub record SaysPart (told : Account) (old new : Seen) : Type 0 where
-  pub front : Tells old → PutsFront old.world new.world told.text
-  pub counted : RoseBy (one_more Puts told.failed) old.faults new.faults
+-- A line was put behind an earlier text: all of both, or a fault of the output cut the line short, and then the status is the
+-- greater of its own and the fault's.
+pub data IsSaidBehind (earlier : List ℕ) (told : Account) (old new : Seen) (status : ℕ) : Type 0 where
+  whole : SaysAll (record told { text = earlier ++ told.text }) old new status → IsSaidBehind earlier told old new status
+  cut_short : SaysCut earlier told.text told.failed old new → status ≡ max told.status 7 → IsSaidBehind earlier told old new status
 
--- it was put whole, or a fault of the output cut it short, and the status is the greater of its own and the fault's
-pub data IsSaid (told : Account) (old new : Seen) (status : ℕ) : Type 0 where
-  whole : SaysAll told old new status → IsSaid told old new status
-  cut_short : SaysPart told old new → status ≡ max told.status 7 → IsSaid told old new status
+-- the same of a line that is all that is put
+abbrev pub IsSaid : Account → Seen → Seen → ℕ → Type 0
+IsSaid told old new status = IsSaidBehind [] told old new status
 
--- What was served was put up to a place in its last line, and just the calls that it tells failed, and one put.
-pub record SaysCut (served : List Served) (old new : Seen) : Type 0 where
+-- what was served was put up to a place in its last line
+pub record AreCut (served : List Served) (old new : Seen) : Type 0 where
   pub earlier : List Served
   pub last : Served
   pub are : served ≡ earlier ++ last ∷ []
-  pub front : Tells old → HasFront (output_of old.world.events ++ all_text earlier) (text_in last) (output_of new.world.events)
-  pub counted : RoseBy (one_more Puts (faults_told served)) old.faults new.faults
+  pub said : SaysCut (all_text earlier) (text_in last) (faults_told served) old new
 
 -- the status of a reply, where its line was printed
 abbrev pub if_printed : Bool → ℕ → Result ℕ Failed

@@ -19,10 +19,10 @@ use Rattle.cckd_engine.specs.Engine.{standing, Stands, Runs, TellsStops}
 use Rattle.cckd_engine.specs.Lines.{Line, history_onto, LinesAt}
 use Rattle.cckd_console.specs.declared.stop.Stop.{Stop}
 use Rattle.cckd_console.specs.declared.stop.Stop.TheVariants as stop
-use Rattle.cckd_console.specs.Script.{IsReadOut, OfTheTaken, OfAFront, OfTheScript, closing}
+use Rattle.cckd_console.specs.Script.{IsReadOut, OfTheTaken, OfACut, OfTheScript, closing}
 use Rattle.cckd_script.specs.Items.{script_items}
 use Rattle.cckd_console.specs.Served.{Served, item_in, line_in, AreLines, AreAlone, OnlyRead, worst}
-use Rattle.cckd_console.specs.Saying.{account_of, untaken, SaysAll, SaysCut}
+use Rattle.cckd_console.specs.Saying.{account_of, untaken, SaysAll, AreCut}
 
 -- What lines keep that are put, with the calls that they answer: so it is at each operation, and after them.
 pub record KeepsLines (g : Geometry) (s0 : Stack) (h : History) (lines : List Line) (before : List ℕ) (old new : List Event) : Type 0 where
@@ -60,7 +60,7 @@ pub record Serves {S D : Type 0} (shows : Showing S) (makes : Making D) (served 
 -- they were said, and the answer is their status; or the output failed in the last line
 abbrev pub AreSaid : List Served → Seen → Seen → Result ℕ Failed → Type 0
 AreSaid served old new (Ok status) = SaysAll (account_of served) old new status
-AreSaid served old new (Err fault) = SaysCut served old new
+AreSaid served old new (Err fault) = AreCut served old new
 
 -- These items were served, by at most so many calls, and nothing of the script was taken.
 pub record ServesItems {S D : Type 0} (shows : Showing S) (makes : Making D) (items : List Item) (calls : ℕ) (old new : Engine S D)
@@ -82,7 +82,7 @@ StopsBy limit served old new stop.Unscripted =
     (Tells old → OfTheTaken limit old.world.script new.world.script served)
     × SaysAll (untaken (account_of served)) old new (worst served)
 StopsBy limit served old new stop.Cut =
-    (Tells old → OfAFront limit old.world.script served) × SaysCut served old new
+    (Tells old → OfACut limit old.world.script new.world.script served) × AreCut served old new
 
 -- a script of at most so many bytes was served until this
 pub record ServesScript {S D : Type 0} (shows : Showing S) (makes : Making D) (limit : ℕ) (old new : Engine S D) (end : Stop) : Type 0 where

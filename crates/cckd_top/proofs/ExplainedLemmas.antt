@@ -1,5 +1,5 @@
 -- A run, from its parts.
-use Rattle.std.proofs.Common.{◌≡◌, ℕ, List, [], ◌++◌, take, Ok, Err, refl, sym, ◌∙◌, ap, subst, append-nil}
+use Rattle.std.proofs.Common.{◌≡◌, ℕ, List, [], ◌++◌, Ok, Err, refl, sym, ◌∙◌, ap, subst, append-nil}
 use Rattle.cckd_base.specs.declared.open_fault.OpenFault.{OpenFault}
 use Rattle.cckd_base.specs.declared.open_fault.OpenFault.TheVariants as open_fault
 use Rattle.cckd_shelf.specs.declared.fault.Faults.{Faults}
@@ -20,13 +20,13 @@ use Rattle.cckd_console.specs.Served.{Served, all_text, text_in, faults_told}
 use Rattle.cckd_console.specs.Serving.{KeepsLines}
 use Rattle.cckd_console.proofs.CountLemmas.{rose_still, rose_one, rose_later}
 use Rattle.cckd_console.proofs.JoinLemmas.{keeps_twice}
-use Rattle.cckd_console.specs.Saying.{Account, account_of, SaysAll, SaysPart, SaysCut, whole, cut_short}
+use Rattle.cckd_console.specs.Saying.{Account, account_of, SaysAll, SaysCut, AreCut, IsSaidBehind, whole, cut_short}
 use Rattle.cckd_top.specs.declared.halt.Halt.TheVariants as halt
 use Rattle.cckd_top.specs.Ended.{EndsScript}
 use Rattle.cckd_top.specs.Explained.{IsExplained, ExplainsDisk, words_are_bad, files_dont_open, disk_is_served, refused, opened}
 use Rattle.cckd_top.specs.Names.{after_binds}
 use Rattle.cckd_top.specs.Opening.{OpensDisk, FailsToOpen, CountsOpening}
-use Rattle.cckd_top.specs.Run.{Way, closed, unscripted, cut, halted, served, unscripted_account, open_fault_told, script_limit, IsTaken, HasPutLines, lines_of}
+use Rattle.cckd_top.specs.Run.{Way, closed, unscripted, cut, halted, served, source_account, open_fault_told, script_limit, IsTaken, HasPutLines, lines_of}
 use Rattle.cckd_top.specs.Text.{open_fault_text, open_fault_status, halt_text, halt_status}
 use Rattle.cckd_top.specs.Words.{Named, named_disk}
 use Rattle.cckd_top.specs.World.{StayIntact, OnlyMounts, after_mounting}
@@ -134,33 +134,30 @@ module _ (a b c : Seen) (tells : Tells a → Tells b) (silent : Tells a → outp
     counted = rose_later told.failed a.faults b.faults c.faults still says.counted;
   }
 
-  part_from : (told : Account) → SaysPart told b c → SaysPart told a c
-  part_from told says = record {
-    front = λ t.
-        let front = says.front (tells t) in
-        record { count = front.count; front = front.front ∙ ap (λ (s : List ℕ). s ++ take front.count told.text) (silent t) };
-    counted = rose_later (one_more Puts told.failed) a.faults b.faults c.faults still says.counted;
+  cut_from : (earlier last : List ℕ) (failed : Faults) → SaysCut earlier last failed b c → SaysCut earlier last failed a c
+  cut_from earlier last failed says = record {
+    front = λ t. subst (λ (s : List ℕ). HasFront (s ++ earlier) last (output_of c.world.events)) (silent t) (says.front (tells t));
+    counted = rose_later (one_more Puts failed) a.faults b.faults c.faults still says.counted;
   }
 
-  said_from : (told : Account) (status : ℕ) → IsSaid told b c status → IsSaid told a c status
-  said_from told status said = elim said [
-    | whole says ↦ whole (all_from told status says)
-    | cut_short says is ↦ cut_short (part_from told says) is
+  said_from : (earlier : List ℕ) (told : Account) (status : ℕ) → IsSaidBehind earlier told b c status → IsSaidBehind earlier told a c status
+  said_from earlier told status said = elim said [
+    | whole says ↦ whole (all_from (record told { text = earlier ++ told.text }) status says)
+    | cut_short says is ↦ cut_short (cut_from earlier told.text told.failed says) is
   ]
 
-  cut_from : (xs : List Served) → SaysCut xs b c → SaysCut xs a c
-  cut_from xs says = record {
+  are_cut_from : (xs : List Served) → AreCut xs b c → AreCut xs a c
+  are_cut_from xs says = record {
     earlier = says.earlier;
     last = says.last;
     are = says.are;
-    front = λ t. subst (λ (s : List ℕ). HasFront (s ++ all_text says.earlier) (text_in says.last) (output_of c.world.events)) (silent t) (says.front (tells t));
-    counted = rose_later (one_more Puts (faults_told xs)) a.faults b.faults c.faults still says.counted;
+    said = cut_from (all_text says.earlier) (text_in says.last) (faults_told xs) says.said;
   }
 
   lines_from : (way : Way) (xs : List Served) (status : ℕ) → HasPutLines way xs b c status → HasPutLines way xs a c status
   lines_from closed xs status says = all_from (account_of xs) status says
-  lines_from unscripted xs status says = said_from (unscripted_account xs) status says
-  lines_from cut xs status says = (cut_from xs says.0, says.1)
+  lines_from unscripted xs status says = said_from (all_text xs) (source_account xs) status says
+  lines_from cut xs status says = (are_cut_from xs says.0, says.1)
 
 -- a run whose files open
 pub disk_served : {S D : Type 0} (shows : Showing S) (makes : Making D) (start end : S) (engine : Engine S D) (name : List ℕ) (status : ℕ)

@@ -11,8 +11,8 @@ use Rattle.cckd_stack.specs.History.{History}
 use Rattle.cckd_engine.specs.Lines.{Line, of_text, history_onto}
 use Rattle.cckd_console.specs.Counts.{failures}
 use Rattle.cckd_console.specs.Served.{Served, line_in, all_text}
-use Rattle.cckd_console.specs.Saying.{Account, account_of, untaken, SaysAll, SaysCut, IsSaid}
-use Rattle.cckd_console.specs.Script.{OfTheTaken, OfAFront, OfTheScript}
+use Rattle.cckd_console.specs.Saying.{Account, account_of, untaken, SaysAll, AreCut, IsSaidBehind, IsSaid}
+use Rattle.cckd_console.specs.Script.{OfTheTaken, OfACut, OfTheScript}
 use Rattle.cckd_top.specs.declared.halt.Halt.{Halt}
 use Rattle.cckd_top.specs.declared.halt.Halt.TheVariants as halt
 use Rattle.cckd_top.specs.Text.{halt_text, halt_status}
@@ -65,24 +65,25 @@ lines_of _ xs = map line_in xs
 abbrev pub history_of : List Served → History
 history_of xs = history_onto (map line_in xs) []
 
--- What was served is that of the whole script, or of the lines that ended in what was taken of it, or of a front of it.
+-- What was served is that of the whole script, or of the lines that ended in what was taken of it, or of a front of it. How much
+-- was taken is told of each.
 abbrev pub IsTaken : Way → ℕ → List ℕ → List ℕ → List Served → Type 0
 IsTaken closed limit script left xs = OfTheScript limit script left xs
 IsTaken unscripted limit script left xs = OfTheTaken limit script left xs
-IsTaken cut limit script left xs = OfAFront limit script xs
+IsTaken cut limit script left xs = OfACut limit script left xs
 
--- what a run tells whose script couldn't be taken: its lines and one more, and the call that takes among those that failed
-abbrev pub unscripted_account : List Served → Account
-unscripted_account xs = record { text = all_text xs ++ source_line; status = 7; failed = (untaken (account_of xs)).failed }
+-- what a run tells behind its lines whose script couldn't be taken: one line more, and the call that takes among those that failed
+abbrev pub source_account : List Served → Account
+source_account xs = record { text = source_line; status = 7; failed = (untaken (account_of xs)).failed }
 
--- What is put of a script, with the status: all lines, or a front that ends in the last of them.
+-- What is put of a script, with the status: all lines, or all but a last one, which was cut.
 abbrev pub HasPutLines : Way → List Served → Seen → Seen → ℕ → Type 0
 HasPutLines closed xs old new status = SaysAll (account_of xs) old new status
-HasPutLines unscripted xs old new status = IsSaid (unscripted_account xs) old new status
-HasPutLines cut xs old new status = SaysCut xs old new × (status ≡ 7)
+HasPutLines unscripted xs old new status = IsSaidBehind (all_text xs) (source_account xs) old new status
+HasPutLines cut xs old new status = AreCut xs old new × (status ≡ 7)
 
--- What is put, with the status and each count of faults: the line of a halt or those of a script, whole or as far as the output
--- took them.
+-- What is put, with the status and each count of faults: the line of a halt or those of a script, whole or but for the end of the
+-- last one, where the output failed.
 abbrev pub HasPut : Ending → Seen → Seen → ℕ → Type 0
 HasPut (halted why) old new status = IsSaid (halt_account why) old new status
 HasPut (served way xs) old new status = HasPutLines way xs old new status

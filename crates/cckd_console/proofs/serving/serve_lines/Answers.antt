@@ -1,4 +1,4 @@
-use Rattle.std.proofs.Common.{refl, subst, sym, ◌∙◌, arith}
+use Rattle.std.proofs.Common.{rules, refl, subst, sym, ◌∙◌, arith}
 use Rattle.cckd_console.specs.Serving.{ServesWhole}
 use Rattle.cckd_console.proofs.ScriptSteps.{KeepsServed, keeps_first, goes_on, is_whole, is_cut, is_unscripted, less_left, runs_between}
 use Rattle.cckd_console.proofs.serving.serve_lines.Goals as goal
@@ -16,7 +16,7 @@ returns-in_default g c =
     is_cut g.T.Shows g.D.Disk c.args.limit c.args.engine.now c.loop-found.engine c.next_line.new.self
     _ _ _ c.in-Ok.found.1 _ c.in-Ok.found.0
     c.loop-found.invariant c.in-Ok.ensures.next c.in-Ok.ensures.advances c.in-Ok.ensures.rest c.in-Ok.ensures.only c.in-Ok.ensures.fails.still c.in-Ok.ensures.runs
-    c.serve_next.new.engine _ c.in_default.ensures.serves
+    c.in-Ok.ensures.place (search rules) c.serve_next.new.engine _ c.in_default.ensures.serves
 
 pub loop-found-preserved : goal.loop-found-preserved
 loop-found-preserved g c =
