@@ -19,8 +19,10 @@ use Rattle.cckd_stack.proofs.HistoryLemmas.{survives_within}
 use Rattle.cckd_engine.specs.declared.engine.Engine.{Engine}
 use Rattle.cckd_engine.specs.declared.disk.Disk.{Ghosts as Making}
 use Rattle.cckd_engine.specs.declared.tally.Tally.{Tally}
+use Rattle.cckd_engine.specs.Frame.{Spares}
 use Rattle.cckd_engine.specs.Engine.{Standing, standing, Stands, Runs, IsWithStage}
 use Rattle.cckd_engine.specs.Lines.{Line, of_call, of_text, StopAfter, history_onto, lines_since, feeds, LinesAt, KeepsLine}
+use Rattle.cckd_engine.proofs.FrameLemmas.{spares_still, spares_twice, spares_takes}
 use Rattle.cckd_engine.proofs.StepLemmas.{each_opens}
 use Rattle.cckd_engine.proofs.ServeLemmas.{feeds_twice, feeds_line, lines_behind}
 use Rattle.cckd_console.specs.Served.{Served, line_in, text_in, all_text, AreLines}
@@ -173,6 +175,8 @@ module _ {S D : Type 0} (shows : Showing S) (makes : Making D) (xs ys : List Ser
           let first = f.quiet same (all_before _ xs ys reads) in
           let second = k.quiet first.0 (all_behind _ xs ys reads) in
           (second.0, λ told. only_puts_twice (shows.world a.stage) (shows.world b.stage) (shows.world c.stage) (first.1 told) (second.1 told));
+      spares = spares_twice (makes.spares a.disk) (makes.spares b.disk) (makes.spares c.disk) (seen shows a.stage) (seen shows b.stage) (seen shows c.stage)
+          (λ told. told) f.spares k.spares;
     }
 
 -- nothing was served
@@ -186,6 +190,7 @@ serves_none shows makes a = record {
   agrees = λ told agrees. agrees;
   stops = λ s0 h told stands tells left. keeps_none (makes.geometry a.disk) s0 h (shows.world a.stage).events left;
   quiet = λ same reads. (same, λ told. only_puts_still (shows.world a.stage) (shows.world a.stage) refl refl);
+  spares = spares_still (makes.spares a.disk) (seen shows a.stage);
 }
 
 -- a part of the script was taken
@@ -227,4 +232,6 @@ module _ {S D : Type 0} (shows : Showing S) (makes : Making D) (a b : Engine S D
         subst makes.unchanged (sym rest.disk) same,
         λ told. only_puts_still (shows.world a.stage) (shows.world b.stage) (only told).files (only told).events,
       );
+      spares = subst (λ (d : D). Spares (makes.spares a.disk) (makes.spares d) (seen shows a.stage) (seen shows b.stage)) (sym rest.disk)
+          (spares_takes (makes.spares a.disk) (seen shows a.stage) (seen shows b.stage) only);
     }

@@ -18,8 +18,10 @@ use Rattle.cckd_stack.specs.Stops.{Survives}
 use Rattle.cckd_stack.specs.Moments.{EachOpens}
 use Rattle.cckd_engine.specs.declared.engine.Engine.{Engine}
 use Rattle.cckd_engine.specs.declared.disk.Disk.{Ghosts as Making}
+use Rattle.cckd_engine.specs.Frame.{Spares}
 use Rattle.cckd_engine.specs.Engine.{standing, Stands, Runs, TellsStops, IsWithStage}
 use Rattle.cckd_engine.specs.Lines.{of_text, KeepsLine, HasFront, CountsServed}
+use Rattle.cckd_engine.proofs.FrameLemmas.{spares_puts}
 use Rattle.cckd_engine.proofs.ServeLemmas.{front_put}
 use Rattle.cckd_console.specs.Counts.{RoseBy, one_more}
 use Rattle.cckd_console.specs.Served.{Served, called, misread, text_in, status_in, reply_status, faults_told}
@@ -128,6 +130,8 @@ module _ {S D : Type 0} (shows : Showing S) (makes : Making D) (a c : Engine S D
           (subst (λ (t : List ℕ). KeepsLine (makes.geometry a.disk) s0 h (of_text t) (output_of (shows.world a.stage).events)
           (shows.world a.stage).events (shows.world c.stage).events) is (stops s0 h told (subst IsLine (sym is) one) left));
       quiet = λ same reads. (subst makes.unchanged (sym rest.disk) same, λ told. front_only text (shows.world a.stage) (shows.world c.stage) (front told));
+      spares = subst (λ (d : D). Spares (makes.spares a.disk) (makes.spares d) (seen shows a.stage) (seen shows c.stage)) (sym rest.disk)
+          (spares_puts (makes.spares a.disk) text (seen shows a.stage) (seen shows c.stage) front);
     }
 
     module _ (result : Result ℕ Failed) (said : AreSaid (misread why ∷ []) (seen shows a.stage) (seen shows c.stage) result) where

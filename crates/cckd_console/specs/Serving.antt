@@ -15,6 +15,7 @@ use Rattle.cckd_stack.specs.Stops.{Survives}
 use Rattle.cckd_stack.specs.Moments.{EachOpens}
 use Rattle.cckd_engine.specs.declared.engine.Engine.{Engine}
 use Rattle.cckd_engine.specs.declared.disk.Disk.{Ghosts as Making}
+use Rattle.cckd_engine.specs.Frame.{Spares}
 use Rattle.cckd_engine.specs.Engine.{standing, Stands, Runs, TellsStops}
 use Rattle.cckd_engine.specs.Lines.{Line, history_onto, LinesAt}
 use Rattle.cckd_console.specs.declared.stop.Stop.{Stop}
@@ -53,6 +54,8 @@ pub record Serves {S D : Type 0} (shows : Showing S) (makes : Making D) (served 
       → EachOpens (makes.geometry old.disk) (Survives (makes.geometry old.disk) s0 h) (shows.world old.stage).events
       → KeepsLines (makes.geometry old.disk) s0 h (map line_in served) (output_of (shows.world old.stage).events)
       (shows.world old.stage).events (shows.world new.stage).events
+  -- in any case nothing is done to the files that the disk leaves alone
+  pub spares : Spares (makes.spares old.disk) (makes.spares new.disk) (seen shows old.stage) (seen shows new.stage)
   -- where no call writes, a disk that wasn't changed stays so, and nothing is done to its files
   pub quiet : makes.unchanged old.disk → OnlyRead served
       → makes.unchanged new.disk × (Tells (seen shows old.stage) → OnlyPuts (shows.world old.stage) (shows.world new.stage))

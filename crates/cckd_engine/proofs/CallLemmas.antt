@@ -1,13 +1,8 @@
 -- What a call of a stack is, as an engine asks it of its disk.
-use Rattle.std.proofs.Common.{◌≡◌, ℕ, ◌+◌, ◌<◌, ◌≤◌, Bool, true, false, List, [], ◌∷◌, ◌++◌, length, take, drop, Option, Some, None, Result, Ok, Err, OnOk, IfOk, IfErr, refl, sym, ◌∙◌, ap, subst, arith}
-use Rattle.std.specs.Prelude.{IsTrue}
-use Rattle.std.specs.Option.{option_map, option_or}
-use Rattle.std.proofs.lemmas.Bool.{false≢true}
+use Rattle.std.proofs.Common.{◌≡◌, ℕ, ◌≤◌, false, List, [], length, Option, Some, None, Result, Ok, Err, OnOk, IfErr, refl, sym, ◌∙◌, ap, subst}
+use Rattle.std.specs.Option.{option_or}
 use Rattle.cckd_base.specs.declared.geometry.Geometry.{Geometry}
-use Rattle.cckd_base.specs.declared.geometry.Addr.{Addr}
-use Rattle.cckd_base.specs.declared.geometry.Track.{Track}
 use Rattle.cckd_base.specs.declared.call.Call.{Call}
-use Rattle.cckd_base.specs.declared.call.Call.TheVariants as call
 use Rattle.cckd_base.specs.declared.reply.Reply.{Reply}
 use Rattle.cckd_base.specs.declared.reply.Reply.TheVariants as reply
 use Rattle.cckd_base.specs.declared.reply.Refusal.{Refusal}
@@ -18,25 +13,26 @@ use Rattle.cckd_base.specs.declared.layer_fault.StackFault.{StackFault}
 use Rattle.cckd_base.specs.declared.layer_fault.StackFault.TheVariants as stack_fault
 use Rattle.cckd_base.specs.Track.{null_track}
 use Rattle.cckd_shelf.specs.declared.fault.Faults.{Faults}
-use Rattle.cckd_shelf.specs.Events.{Event, output_of}
+use Rattle.cckd_shelf.specs.Events.{output_of}
 use Rattle.cckd_shelf.specs.World.{World, IsSure}
 use Rattle.cckd_shelf.specs.Seen.{Seen, Tells, Stays}
-use Rattle.cckd_shelf.specs.Outcomes.{AtEach}
 use Rattle.cckd_shelf.proofs.MomentLemmas.{at_once, kept_at}
 use Rattle.cckd_script.specs.Text.{FitsCall, RefusalFitsCall}
 use Rattle.cckd_layer.specs.Writes.{IsOutside}
 use Rattle.cckd_stack.specs.Layers.{Stack}
-use Rattle.cckd_stack.specs.Answers.{Request, Answer, Pair, MayAnswer, refuses, plain, refused, address_in, no_such_track, refusal_to, is_refused, stack_after_call}
+use Rattle.cckd_stack.specs.Answers.{Request, Answer, MayAnswer, refuses, plain, refused, address_in, no_such_track, refusal_to, is_refused, stack_after_call}
 use Rattle.cckd_stack.specs.History.{refusal_breaks, reply_breaks}
 use Rattle.cckd_stack.specs.Stops.{Lies, hardens}
-use Rattle.cckd_stack.specs.Moments.{EachOpens, Hardening, IsHardened, KeepsStops}
+use Rattle.cckd_stack.specs.Moments.{EachOpens, Hardening, IsHardened}
 use Rattle.cckd_stack.specs.Stacked.{StackState, InLayer, CanReadAll, OnlyCaches, CountsFault, CountsKind, kind_told, with_layers}
-use Rattle.cckd_stack.specs.Writes.{AgreeAll, AreUnchanged, KeepsEach, HasHardening, StopsLie, StopsSettle, OnlyHardens, reply_by, refusal_by, is_broken_by, stack_now}
+use Rattle.cckd_stack.specs.Writes.{AgreeAll, AreUnchanged, KeepsEach, HasHardening, StopsLie, StopsSettle, OnlyHardens, reply_by, refusal_by, is_broken_by}
 use Rattle.cckd_stack.specs.Called.{CanCall, AgreesAfter, stack_in, only_events}
 use Rattle.cckd_stack.proofs.CalledLemmas.{stops_unhardened, harden_answers, harden_stack, harden_stops, call_breaks}
 use Rattle.cckd_stack.proofs.TiedLemmas.{agree_by, caches_keep, caches_unchanged, tied_sure}
-use Rattle.cckd_engine.specs.Calls.{CountsReply, CountsOne, RunStays, KeepsRun, asks, fault_told, writes}
+use Rattle.cckd_engine.specs.Calls.{CountsReply, CountsOne, RunStays, asks, fault_told}
+use Rattle.cckd_engine.specs.Frame.{Spares, IsLower}
 use Rattle.cckd_engine.specs.Performs.{Performs}
+use Rattle.cckd_engine.proofs.FrameLemmas.{spares_still, reads_spare}
 
 -- ---- a world of which what happened is told
 
@@ -63,6 +59,7 @@ module _ (old : StackState) (now : Seen) (can : CanCall old now) where
         stops_unhardened old.geometry was r (reply.Refused refusal.NoSuchTrack) now.world.events now.world.events
         (at_once (EachOpens old.geometry (Lies was.hard was.later)) now.world.events hardened.stops) refl;
     quiet = λ unchanged silent. (unchanged, λ told. refl);
+    spares = spares_still (IsLower old) now;
     counts = refl;
     run = λ told. record { output = refl; script = refl };
   }
@@ -139,6 +136,7 @@ module _ (old new : StackState) (before after : Seen) (can : CanCall old before)
           stops_unhardened old.geometry was r said.reply before.world.events after.world.events
           (kept_at (EachOpens old.geometry (Lies was.hard was.later)) before.world after.world (kept told) hardened.stops) calm;
       quiet = λ unchanged silent. (caches_unchanged old.layers new.layers caches unchanged, kept);
+      spares = reads_spare old new before after caches kept;
       counts = counts;
       run = λ told. record { output = ap (λ (w : World). output_of w.events) (kept told); script = ap (λ (w : World). w.script) (kept told) };
     }
@@ -163,7 +161,7 @@ has old before was told agree is hardened = record {
 module _ (old new : StackState) (before after : Seen) (can : CanCall old before) (back : Tells after → Tells before)
     (result : Result (Unit {0}) StackFault) (geometry : new.geometry ≡ old.geometry) (broken : new.broken ≡ is_broken_by result)
     (lies : StopsLie null_track old.geometry old.layers before after) (run : Tells before → RunStays before.world after.world)
-    (some : 1 ≤ length new.layers) (grown : Tells before → IsSure after.world → IsSure before.world)
+    (some : 1 ≤ length new.layers) (grown : Tells before → IsSure after.world → IsSure before.world) (spares : Spares (IsLower old) (IsLower new) before after)
   where
     pub harden_does : (c : Call) (given : List ℕ) (done : Reply) → OnlyHardens c done → refusal_breaks c refusal.ReadFault ≡ false → is_refused done ≡ false
         → FitsCall c (length given) done → fault_told done ≡ None
@@ -193,6 +191,7 @@ module _ (old new : StackState) (before after : Seen) (can : CanCall old before)
               harden_stops (Unit {0}) old.geometry was given c done result before.world.events after.world.events only (lies was h)
               (on_ok (Unit {0}) (StopsSettle null_track old.geometry old.layers before after) (EachOpens old.geometry (Lies was.stack []) after.world.events) result settles (λ settle. settle was h));
           quiet = λ unchanged silent. quiet unchanged;
+          spares = spares;
           counts = done_counts (Unit {0}) done result before.faults after.faults none counts;
           run = run;
         }

@@ -1,5 +1,6 @@
 pub mod ServeLemmas
 pub mod StepLemmas
+pub mod FrameLemmas
 pub mod CallLemmas
 pub mod TrackCallLemmas
 pub mod MountLemmas

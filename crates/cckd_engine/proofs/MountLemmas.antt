@@ -1,7 +1,6 @@
 -- An engine that was just mounted.
-use Rattle.std.proofs.Common.{◌≡◌, ℕ, suc, ◌∷◌, false, true, List, [], length, Option, None, refl, sym, ◌∙◌, ap, subst}
+use Rattle.std.proofs.Common.{◌≡◌, ℕ, suc, ◌∷◌, false, List, [], length, Option, None, refl, sym, ◌∙◌, ap, subst}
 use Rattle.std.proofs.Math.Path.{fun_ext}
-use Rattle.cckd_base.specs.declared.geometry.Geometry.{Geometry}
 use Rattle.cckd_base.specs.Track.{null_track}
 use Rattle.cckd_shelf.specs.Seen.{Seen, Tells, Makes}
 use Rattle.cckd_shelf.specs.Events.{is_sure}
@@ -21,7 +20,7 @@ use Rattle.cckd_stack.proofs.SomeLemmas.{sure_unsynced}
 use Rattle.cckd_stack.proofs.TiedLemmas.{mounted_agree, mounted_hardening}
 use Rattle.cckd_stack.proofs.OpenedLemmas.{opens_once, mounted_snug, mounted_absent}
 use Rattle.cckd_engine.specs.declared.tally.Tally.{Tally}
-use Rattle.cckd_engine.specs.Engine.{Standing, Stands, no_tally}
+use Rattle.cckd_engine.specs.Engine.{Stands, no_tally}
 use Rattle.cckd_engine.proofs.CallLemmas.{agrees_then}
 
 module _ (limit : ℕ) (s : StackState) (old new : Seen) (is : IsStack s) (fresh : AreFreshFrom limit 0 s.layers) (tells : Tells old → Tells new) (back : Tells new → Tells old)

@@ -1,6 +1,5 @@
 -- The calls at a track, and those that look at all of them, as an engine asks them of its disk.
-use Rattle.std.proofs.Common.{◌≡◌, ℕ, ◌+◌, ◌-◌, ◌<◌, ◌≤◌, Bool, true, false, List, [], ◌∷◌, ◌++◌, length, take, drop, replicate, length-take-le, Option, Some, None, Result, Ok, Err, OnOk, IfOk, IfErr, refl, sym, ◌∙◌, ap, subst, arith}
-use Rattle.std.specs.Prelude.{IsTrue}
+use Rattle.std.proofs.Common.{◌≡◌, ℕ, ◌≤◌, false, List, length, take, drop, length-take-le, Option, Some, None, Result, Ok, Err, OnOk, IfOk, IfErr, refl, sym, ◌∙◌, ap, subst, arith}
 use Rattle.std.specs.Option.{option_map, option_or}
 use Rattle.std.proofs.Math.Seq.{take-append_seam}
 use Rattle.std.proofs.lemmas.Bool.{false≢true}
@@ -12,7 +11,6 @@ use Rattle.cckd_base.specs.declared.call.Call.{Call}
 use Rattle.cckd_base.specs.declared.call.Call.TheVariants as call
 use Rattle.cckd_base.specs.declared.reply.Reply.{Reply}
 use Rattle.cckd_base.specs.declared.reply.Reply.TheVariants as reply
-use Rattle.cckd_base.specs.declared.reply.Refusal.{Refusal}
 use Rattle.cckd_base.specs.declared.reply.Refusal.TheVariants as refusal
 use Rattle.cckd_base.specs.declared.layer_fault.LayerFault.{LayerFault}
 use Rattle.cckd_base.specs.declared.layer_fault.LayerFault.TheVariants as fault
@@ -22,28 +20,27 @@ use Rattle.cckd_base.specs.Geometry.{track_at, IsGeometry}
 use Rattle.cckd_base.specs.Track.{null_track, track_fault, track_value}
 use Rattle.cckd_base.proofs.TrackLemmas.{accepted_length_lem, value_length_lem}
 use Rattle.cckd_shelf.specs.declared.fault.Faults.{Faults}
-use Rattle.cckd_shelf.specs.Seen.{Seen, Tells, Stays}
-use Rattle.cckd_script.specs.Text.{FitsCall, answer_limit}
+use Rattle.cckd_shelf.specs.Seen.{Seen, Tells}
+use Rattle.cckd_script.specs.Text.{FitsCall}
 use Rattle.cckd_layer.specs.Reads.{IsReadRefusal, IsReadFault}
-use Rattle.cckd_layer.specs.Storing.{IsWriteRefusal}
 use Rattle.cckd_layer.specs.Mounted.{LayerState}
 use Rattle.cckd_layer.specs.Writes.{Agrees}
 use Rattle.cckd_layer.specs.Loose.{Tied}
 use Rattle.cckd_shelf.specs.World.{World, IsSure}
 use Rattle.std.specs.List.{AllByRecursion}
 use Rattle.cckd_stack.specs.Layers.{Stack, visible, layer_count}
-use Rattle.cckd_stack.specs.Answers.{Request, Answer, Pair, MayAnswer, refuses, answers, from_outside, plain, refused, no_such_track, first_refusal, refusal_to, pair_by, stack_after_call, IsAnswer, counts_shown}
+use Rattle.cckd_stack.specs.Answers.{Request, MayAnswer, refuses, answers, from_outside, plain, refused, no_such_track, first_refusal, refusal_to, pair_by, stack_after_call}
 use Rattle.cckd_stack.specs.History.{reply_breaks}
-use Rattle.cckd_stack.specs.Stops.{Lies, hardens}
-use Rattle.cckd_stack.specs.Moments.{EachOpens, Hardening, IsHardened, KeepsStops}
+use Rattle.cckd_stack.specs.Stops.{hardens}
 use Rattle.cckd_stack.specs.Stacked.{StackState, InLayer, IsPut, Passes, Shows, FitsShown, CountsFault}
 use Rattle.cckd_stack.specs.Faulty.{bad_tracks}
-use Rattle.cckd_stack.specs.Writes.{AgreeAll, AreTied, AreStackBy, AreUnchanged, KeepsStackBy, KeepsEach, StoresOnTopBy, StoresEach, stack_now, StopsLie, IsWriteRefused, reply_by, refusal_by, is_broken_by, with_pair_on_top}
-use Rattle.cckd_stack.specs.Called.{CanCall, AgreesAfter, stack_in}
+use Rattle.cckd_stack.specs.Writes.{AgreeAll, AreTied, AreStackBy, KeepsStackBy, KeepsEach, StoresOnTopBy, StoresEach, stack_now, StopsLie, IsWriteRefused, reply_by, refusal_by, is_broken_by, with_pair_on_top}
+use Rattle.cckd_stack.specs.Called.{CanCall, stack_in}
 use Rattle.cckd_stack.proofs.TopLemmas.{with_own}
 use Rattle.cckd_stack.proofs.TiedLemmas.{tied_sure}
 use Rattle.cckd_stack.proofs.CalledLemmas.{stops_unhardened, call_breaks, write_stack}
-use Rattle.cckd_engine.specs.Calls.{CountsReply, RunStays, asks, answer_in, fault_told, writes}
+use Rattle.cckd_engine.specs.Calls.{CountsReply, RunStays, asks, answer_in}
+use Rattle.cckd_engine.specs.Frame.{Spares, IsLower}
 use Rattle.cckd_engine.specs.Performs.{Performs, said_to_read, said_to_display, said_to_check}
 use Rattle.cckd_engine.proofs.CallLemmas.{agrees_now, agrees_then, fault_fits, fault_counts, done_counts, done_fits, has}
 
@@ -259,7 +256,7 @@ keeps_by P Q (Err why) h f = f h
 module _ (old new : StackState) (before after : Seen) (can : CanCall old before) (back : Tells after → Tells before)
     (result : Result (Unit {0}) StackFault) (geometry : new.geometry ≡ old.geometry) (broken : new.broken ≡ is_broken_by result)
     (lies : StopsLie null_track old.geometry old.layers before after) (run : Tells before → RunStays before.world after.world)
-    (some : 1 ≤ length new.layers) (grown : Tells before → IsSure after.world → IsSure before.world)
+    (some : 1 ≤ length new.layers) (grown : Tells before → IsSure after.world → IsSure before.world) (spares : Spares (IsLower old) (IsLower new) before after)
   where
     pub write_does : (at : Addr) (t : ℕ) → track_at old.geometry at ≡ Some (record { 0 = t }) → (given : List ℕ)
         → OnOk result (StoresEach null_track (t, track_value given) old.layers new.layers before after)
@@ -301,6 +298,7 @@ module _ (old new : StackState) (before after : Seen) (can : CanCall old before)
               stops_unhardened old.geometry was (asks (call.Write at) given) (reply_by (reply.Written (length given)) result) before.world.events after.world.events
               (lies was h) (write_calm at (length given) result);
           quiet = λ unchanged silent. absurd (false≢true (sym silent));
+          spares = spares;
           counts = done_counts (Unit {0}) (reply.Written (length given)) result before.faults after.faults refl counts;
           run = run;
         }

@@ -9,7 +9,7 @@ use Rattle.cckd_shelf.specs.declared.fault.Faults.{Faults}
 use Rattle.cckd_shelf.specs.declared.fault.Kind.{Kind}
 use Rattle.cckd_shelf.specs.declared.fault.Kind.TheVariants.{Reads, Writes, Syncs}
 use Rattle.cckd_shelf.specs.Faults.{Raises}
-use Rattle.cckd_shelf.specs.Events.{Event, output_of}
+use Rattle.cckd_shelf.specs.Events.{output_of}
 use Rattle.cckd_shelf.specs.World.{World}
 use Rattle.cckd_shelf.specs.Seen.{Seen, Tells}
 use Rattle.cckd_script.specs.Text.{answered_bytes}

@@ -1,4 +1,5 @@
 pub mod Calls
+pub mod Frame
 pub mod Engine
 pub mod Lines
 pub mod Performs

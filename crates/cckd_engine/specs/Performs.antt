@@ -12,11 +12,12 @@ use Rattle.cckd_stack.specs.Moments.{Hardening, IsHardened, KeepsStops}
 use Rattle.cckd_stack.specs.Stacked.{StackState}
 use Rattle.cckd_stack.specs.Writes.{AreUnchanged, refusal_by}
 use Rattle.cckd_stack.specs.Called.{CanCall, AgreesAfter, stack_in}
+use Rattle.cckd_engine.specs.Frame.{Spares, IsLower}
 use Rattle.cckd_engine.specs.Calls.{CountsReply, KeepsRun, writes}
 
 -- A call does what is asked of a disk, where no operation had failed half way: it is answered as the layered disk may answer, and
 -- leaves the stack that the layered disk has after it. Unless it breaks, none failed so, and the stack can make calls again. At each
--- operation a stop leaves what it may leave.
+-- operation a stop leaves what it may leave. In any case nothing is done to the files of other slots than that of the last layer.
 pub record Performs (r : Request) (said : Answer) (old new : StackState) (before after : Seen) : Type 0 where
   pub answers : Tells before → IsSure before.world → MayAnswer old.geometry (stack_in old before.world.events) r said
   pub fits : FitsCall r.asked (length r.given) said.reply
@@ -29,6 +30,7 @@ pub record Performs (r : Request) (said : Answer) (old new : StackState) (before
   pub stops : (was : Hardening) → Tells before → AgreesAfter old before.world.events → was.stack ≡ stack_in old before.world.events
       → IsHardened old.geometry was before.world.events → KeepsStops old.geometry was r said.reply before.world.events after.world.events
   pub quiet : AreUnchanged old.layers → writes r.asked ≡ false → AreUnchanged new.layers × Stays before after
+  pub spares : Spares (IsLower old) (IsLower new) before after
   pub counts : CountsReply said.reply before.faults after.faults
   pub run : KeepsRun before after
 

@@ -11,6 +11,7 @@ ghost use Rattle.cckd_stack.specs.Layers.{Stack};
 ghost use Rattle.cckd_stack.specs.Answers.{MayAnswer, stack_after_call};
 ghost use Rattle.cckd_stack.specs.History.{reply_breaks};
 ghost use Rattle.cckd_stack.specs.Moments.{Hardening, IsHardened, KeepsStops};
+ghost use Rattle.cckd_engine.specs.Frame.{Spares};
 ghost use Rattle.cckd_engine.specs.Calls.{CanAsk, KeepsRun, asks, answer_in, CountsReply, writes};
 
 use cckd_base::{Call, Reply};
@@ -33,6 +34,9 @@ pub trait Disk {
 
     /// That nothing was written to it since it was mounted or closed.
     ghost unchanged: { Self → Type 0 };
+
+    /// That its calls leave the file of a slot alone.
+    ghost spares: { Self → ℕ → Type 0 };
 
     /// Makes a call. Bytes that it gives are `input`, and those that it is answered go to the front of `out`.
     fn perform<T: Stage>(
@@ -70,6 +74,9 @@ pub trait Disk {
 
         // A call that writes nothing to a disk that wasn't changed does nothing to the files, and leaves it unchanged.
         ensures quiet { unchanged self.old → writes call ≡ false → unchanged self.new × Stays (seen T.Shows stage.old) (seen T.Shows stage.new) }
+
+        // Whatever the reply is, and whatever failed before, nothing is done to the files that it leaves alone, and it leaves them alone on.
+        ensures spares { Spares (spares self.old) (spares self.new) (seen T.Shows stage.old) (seen T.Shows stage.new) }
 
         // A fault that was met is told, and no other count rose; nothing is put and nothing is taken.
         ensures counts { CountsReply result (seen T.Shows stage.old).faults (seen T.Shows stage.new).faults }

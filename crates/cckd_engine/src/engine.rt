@@ -12,6 +12,7 @@ ghost use Rattle.cckd_stack.specs.History.{History, reply_breaks};
 ghost use Rattle.cckd_stack.specs.Stops.{Survives};
 ghost use Rattle.cckd_stack.specs.Moments.{EachOpens};
 ghost use Rattle.cckd_engine.specs.Calls.{CanAsk, CountsReply, KeepsRun, asks, answer_in, writes};
+ghost use Rattle.cckd_engine.specs.Frame.{Spares};
 ghost use Rattle.cckd_engine.specs.Engine.{entry_of, no_tally, standing, IsWithStage, Stands, Runs, TellsStops, KeepsHistory};
 ghost use Rattle.cckd_lines.specs.Lines.{IsPlace, IsAtEnd, IsNext, LiesIn, IsShort, Advances, BreaksOff, OnlyTakes, held, text_of, allowance};
 ghost use Rattle.cckd_engine.specs.Lines.{KeepsLine, of_call, of_text, CountsServed, CountsCut, HasFront};
@@ -110,6 +111,7 @@ impl<T: Stage, D: Disk> Engine<T, D> {
         ensures counts { CountsReply result (seen T.Shows self.old.stage).faults (seen T.Shows self.new.stage).faults }
         ensures run { KeepsRun (seen T.Shows self.old.stage) (seen T.Shows self.new.stage) }
         ensures quiet { D.unchanged self.old.disk → writes call ≡ false → D.unchanged self.new.disk × Stays (seen T.Shows self.old.stage) (seen T.Shows self.new.stage) }
+        ensures spares { Spares (D.spares self.old.disk) (D.spares self.new.disk) (seen T.Shows self.old.stage) (seen T.Shows self.new.stage) }
         ensures refused { IfSome self.old.broken (λ at. result ≡ Reply.Refused (Refusal.Broken at)) }
         ensures idle { IsSome self.old.broken → seen T.Shows self.new.stage ≡ seen T.Shows self.old.stage }
     {
@@ -177,6 +179,7 @@ impl<T: Stage, D: Disk> Engine<T, D> {
             (seen T.Shows self.old.stage).faults (seen T.Shows self.new.stage).faults }
         ensures quiet { D.unchanged self.old.disk → writes call ≡ false → D.unchanged self.new.disk
             × PutsSome (reply_line call result.reply (answered_bytes result.reply out.new)) (seen T.Shows self.old.stage) (seen T.Shows self.new.stage) }
+        ensures spares { Spares (D.spares self.old.disk) (D.spares self.new.disk) (seen T.Shows self.old.stage) (seen T.Shows self.new.stage) }
         ensures script { Tells (seen T.Shows self.old.stage) → (seen T.Shows self.new.stage).world.script ≡ (seen T.Shows self.old.stage).world.script }
     {
         let reply = self.step(call, input, out);

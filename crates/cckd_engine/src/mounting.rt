@@ -1,5 +1,5 @@
 //! The mounting of an engine: from the files of the slots to one that can make calls.
-ghost use Rattle.std.specs.Prelude.{◌≡◌, ◌≤◌, [], length, IfOk, IfErr};
+ghost use Rattle.std.specs.Prelude.{◌≡◌, ◌-◌, ◌≤◌, ℕ, [], length, IfOk, IfErr};
 ghost use Rattle.cckd_shelf.specs.Seen.{seen, Tells, Makes};
 ghost use Rattle.cckd_stack.specs.Layers.{Stack as Layered};
 ghost use Rattle.cckd_stack.specs.Opened.{Opens};
@@ -10,6 +10,7 @@ ghost use Rattle.cckd_stack.specs.Mounting.{IsMounted, IsMountCause, SyncsSome, 
 ghost use Rattle.cckd_stack.specs.Writes.{AreUnchanged};
 ghost use Rattle.cckd_stack.specs.Called.{AreSnug, StayAbsent, CanCall, AgreesAfter};
 ghost use Rattle.cckd_engine.specs.Engine.{Stands, Runs, TellsStops, IsNew, standing};
+ghost use Rattle.cckd_engine.specs.Frame.{IsLower};
 ghost use Rattle.cckd_engine.specs.Mounting.{CountsMount};
 
 use crate::disk::Disk;
@@ -38,6 +39,8 @@ impl<T: Stage> Engine<T, Stack<Ckd>> {
             → Stands s0 [] (standing T.Shows ⟦<Stack<Ckd> as Disk>⟧ engine))) (seen T.Shows stage) }
         ensures opens { OfFiles (λ files. IfOk result (λ engine. (s0 : Layered) × Opens engine.disk.geometry files s0)) (seen T.Shows stage) }
         ensures unchanged { IfOk result (λ engine. AreUnchanged engine.disk.layers) }
+        ensures few { IfOk result (λ engine. (1 ≤ length engine.disk.layers) × (length engine.disk.layers ≤ 9)) }
+        ensures spares { IfOk result (λ engine. (slot : ℕ) → (length engine.disk.layers - 1 ≡ slot → ⊥) → IsLower engine.disk slot) }
         ensures runs { IfOk result (λ engine. Runs (CanCall engine.disk) engine.broken (seen T.Shows engine.stage)) }
         ensures agrees { OfFiles (λ files. AreSnug files → IfOk result (λ engine.
             TellsStops (AgreesAfter engine.disk) engine.broken (seen T.Shows engine.stage).world.events)) (seen T.Shows stage) }

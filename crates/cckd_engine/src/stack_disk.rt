@@ -198,6 +198,7 @@ impl Disk for Stack<Ckd> {
     ghost use Rattle.std.proofs.Common.{sym};
     ghost use Rattle.cckd_stack.specs.Called.{CanCall, AgreesAfter, stack_in};
     ghost use Rattle.cckd_stack.specs.Writes.{AreUnchanged};
+    ghost use Rattle.cckd_engine.specs.Frame.{IsLower};
     ghost use Rattle.cckd_stack.proofs.TiedLemmas.{can_call_puts, can_call_still, agrees_after_put};
 
     ghost geometry = { λ s. s.geometry };
@@ -209,6 +210,8 @@ impl Disk for Stack<Ckd> {
     ghost agrees = { AgreesAfter };
 
     ghost unchanged = { λ s. AreUnchanged s.layers };
+
+    ghost spares = { IsLower };
 
     fn perform<T: Stage>(
         &mut self,

@@ -33,7 +33,7 @@ same_files : (layers : List LayerState) → AreSameFiles layers layers
 same_files [] = tt
 same_files (s ∷ ss) = (record { slot = refl; layout = refl; limit = refl }, same_files ss)
 
-files_length : (start now : List LayerState) → AreSameFiles start now → length now ≡ length start
+pub files_length : (start now : List LayerState) → AreSameFiles start now → length now ≡ length start
 files_length [] [] same = refl
 files_length [] (n ∷ ns) same = absurd same
 files_length (s ∷ ss) [] same = absurd same
@@ -178,6 +178,7 @@ pub record HasClosed (null : NullBytes) (g : Geometry) (start now : List LayerSt
   pub lies : StopsLie null g start a b
   pub settled : left < length start → StopsSettle null g start a b
   pub spares : OnlyInChanged start a b
+  pub calm : (slot : ℕ) → HasNoChange start slot → HasNoChange now slot
   pub closed : Tells a → AgreeAll start a.world → AllByRecursion (IsClosedIn b.world) (drop left start)
   pub reads : (i : ℕ) (d : LayerState) → i < left → i < length start → CanRead (get_or start i d) b
   pub still : AreUnchanged start → (now ≡ start) × (b ≡ a)
@@ -198,6 +199,7 @@ none_closed null g start a left e are whole can =
       lies = λ was has. at_once (EachOpens g (Lies was.hard was.later)) a.world.events has.hardened.stops;
       settled = λ low. absurd (omega (arith, e, low));
       spares = λ told. spares_none start a.world;
+      calm = λ slot calm. calm;
       closed = λ told agree. subst (AllByRecursion (IsClosedIn a.world)) (sym none) tt;
       reads = λ i d low inside. all_at (λ (s : LayerState). CanRead s a) start i d can inside;
       still = λ calm. (refl, refl);
@@ -258,6 +260,15 @@ module _ (null : NullBytes) (g : Geometry) (start now : List LayerState) (a b : 
       next_spares still = λ told.
           spares_joins start a.world b.world c.world (was.spares told) (spares_one start n x b.world c.world at_start low (others (tells told)) still)
 
+      -- a slot without a changed layer has none on
+      pub next_calm : (x.marked ≡ false → x.hardened ≡ true → y ≡ x) → (slot : ℕ) → HasNoChange start slot → HasNoChange (set now n y) slot
+      next_calm still slot calm =
+          all_set (λ (s : LayerState). s.slot ≡ slot → IsUnchanged s) now n y (was.calm slot calm)
+          (λ at.
+          let own : (get_or start n x).slot ≡ slot → IsUnchanged (get_or start n x) = all_at (λ (s : LayerState). s.slot ≡ slot → IsUnchanged s) start n x calm low in
+          let here : IsUnchanged x = subst IsUnchanged (sym at_start) (own (ap (λ (s : LayerState). s.slot) (sym at_start) ∙ (sym same.slot ∙ at))) in
+          subst IsUnchanged (sym (still here.unmarked here.hardened)) here)
+
       -- whatever a stop leaves is the stack, from the last layer on
       next_settled : StopsWithin null x b c → StopHolds null x b c → StopsSettle null g start a c
       next_settled stopped holds = λ had has. ⊎_elim
@@ -317,6 +328,7 @@ module _ (null : NullBytes) (g : Geometry) (start now : List LayerState) (a b : 
         lies = next_lies stopped;
         settled = λ less. next_settled stopped holds;
         spares = next_spares (λ unmarked fast. ap (λ (s : Seen). s.world) (still unmarked fast).1);
+        calm = next_calm (λ unmarked fast. (still unmarked fast).0);
         closed = next_closed are closed;
         reads = next_reads are;
         still = next_still still;

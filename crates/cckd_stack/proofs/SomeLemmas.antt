@@ -1,5 +1,5 @@
 -- There is a layer still, and what is sure behind a call was sure before it.
-use Rattle.std.proofs.Common.{◌≡◌, ◌≤◌, ℕ, zero, suc, length, true, List, [], ◌∷◌, ◌++◌, sym, ap, subst, arith}
+use Rattle.std.proofs.Common.{◌≡◌, ◌≤◌, ℕ, zero, suc, length, true, List, [], ◌∷◌, ap, subst, arith}
 use Rattle.std.proofs.lemmas.List.{length-append}
 use Rattle.cckd_shelf.specs.Events.{Event, is_sure}
 use Rattle.cckd_shelf.specs.World.{World, IsSure}

@@ -1,9 +1,9 @@
 //! Closing: the files that were changed are closed images, and all that was written is on the disk for good.
-ghost use Rattle.std.specs.Prelude.{◌≡◌, ◌≤◌, length, false, IsOk, OnOk, IfErr};
+ghost use Rattle.std.specs.Prelude.{◌≡◌, ◌≤◌, ℕ, length, false, IsOk, OnOk, IfErr};
 ghost use Rattle.cckd_shelf.specs.Seen.{seen};
 ghost use Rattle.cckd_layer.specs.Writes.{IsOutside, CountsLayer, is_broken_by as is_layer_broken_by};
 ghost use Rattle.cckd_stack.specs.Stacked.{AreLayersFrom, AreWhole, CanReadAll, InLayer, CountsFault};
-ghost use Rattle.cckd_stack.specs.Writes.{KeepsEach, AreUnchanged, OnlyInChanged, ClosesChanged, AreSameFiles, StopsLie, StopsSettle, is_broken_by};
+ghost use Rattle.cckd_stack.specs.Writes.{KeepsEach, AreUnchanged, HasNoChange, OnlyInChanged, ClosesChanged, AreSameFiles, StopsLie, StopsSettle, is_broken_by};
 
 use crate::hardening::breaks;
 use crate::stack::Stack;
@@ -33,6 +33,7 @@ fn close_each<U: Unit, T: Stage>(
     ensures counts { CountsLayer result (seen T.Shows stage.old).faults (seen T.Shows stage.new).faults }
     ensures stops { StopsLie U.null_bytes geo.now layers.old (seen T.Shows stage.old) (seen T.Shows stage.new) }
     ensures others { OnlyInChanged layers.old (seen T.Shows stage.old) (seen T.Shows stage.new) }
+    ensures calm { (slot : ℕ) → HasNoChange layers.old slot → HasNoChange layers.new slot }
 {
     let count = layers.len();
     for done in 0..count {
@@ -65,9 +66,11 @@ impl<U: Unit> Stack<U> {
         ensures refusal { IfErr result (InLayer IsOutside) }
         ensures counts { CountsFault result (seen T.Shows stage.old).faults (seen T.Shows stage.new).faults }
 
-        // A stop leaves what it could leave before, or the stack, or something of both. Files that weren't changed are left alone.
+        // A stop leaves what it could leave before, or the stack, or something of both. Files that weren't changed are left alone,
+        // and their layers still aren't.
         ensures stops { StopsLie U.null_bytes self.old.geometry self.old.layers (seen T.Shows stage.old) (seen T.Shows stage.new) }
         ensures others { OnlyInChanged self.old.layers (seen T.Shows stage.old) (seen T.Shows stage.new) }
+        ensures calm { (slot : ℕ) → HasNoChange self.old.layers slot → HasNoChange self.new.layers slot }
     {
         let geo = self.geometry;
         match close_each(self.layers.as_mut_slice(), stage, &geo) {

@@ -1,13 +1,13 @@
 -- The nine slots, once they have the files of a disk.
-use Rattle.std.proofs.Common.{◌≡◌, ℕ, zero, suc, ◌≤◌, IsTrue, List, [], Option, Some, unwrap_or, refl, sym, ◌∙◌, ap, subst, arith}
+use Rattle.std.proofs.Common.{◌≡◌, ⊎_elim, ℕ, zero, suc, ◌∷◌, ◌-◌, ◌<◌, ◌≤◌, IsTrue, List, [], Option, Some, unwrap_or, refl, sym, ◌∙◌, ap, subst, arith}
 use Rattle.cckd_base.specs.declared.geometry.Geometry.{Geometry}
 use Rattle.cckd_base.specs.Header.{is_present}
 use Rattle.cckd_shelf.specs.Events.{Event, Name, Synced, name_of, named_by, output_of}
 use Rattle.cckd_shelf.specs.Outcomes.{MayBeLeft, EachOutcome, AtEach}
 use Rattle.cckd_shelf.specs.World.{World, IsSure, IsTied, file_of}
-use Rattle.cckd_shelf.proofs.MomentLemmas.{at_once, at_end, at_next}
+use Rattle.cckd_shelf.proofs.MomentLemmas.{at_once, at_end, at_next, weaker}
 use Rattle.cckd_shelf.proofs.NameLemmas.{name_was_bound}
-use Rattle.cckd_shelf.proofs.OutcomeLemmas.{sync_step}
+use Rattle.cckd_shelf.proofs.OutcomeLemmas.{sync_step, sync_leaves_now}
 use Rattle.cckd_shelf.proofs.WorldLemmas.{tied_slot}
 use Rattle.cckd_stack.specs.Layers.{Stack}
 use Rattle.cckd_stack.specs.Mounting.{IsRow, after_syncs}
@@ -15,16 +15,20 @@ use Rattle.cckd_stack.specs.Moments.{EachOpens}
 use Rattle.cckd_stack.specs.Opened.{Opens}
 use Rattle.cckd_stack.specs.Stops.{Survives}
 use Rattle.cckd_stack.proofs.HistoryLemmas.{lies_same}
+use Rattle.cckd_stack.proofs.MountedLemmas.{syncs_files, syncs_sure}
 use Rattle.cckd_stack.proofs.TopLemmas.{stand_agree}
 use Rattle.cckd_console.specs.Serving.{KeepsLines}
+use Rattle.cckd_engine.specs.Frame.{AreStill, LeavesSlots}
 use Rattle.cckd_engine.specs.Lines.{LinesAt, lines_since}
 use Rattle.cckd_engine.proofs.ServeLemmas.{lines_behind}
 use Rattle.std.proofs.Common.{append-nil}
 use Rattle.cckd_top.specs.Names.{slot_name, files_of, after_binds, AreNamed}
-use Rattle.cckd_top.specs.World.{AreIntact, NothingIsOpen}
+use Rattle.cckd_top.specs.Opening.{HoldsFiles}
+use Rattle.cckd_top.specs.World.{AreIntact, NothingIsOpen, after_mounting}
 use Rattle.cckd_top.proofs.NameLemmas.{named_more}
 use Rattle.cckd_top.proofs.WorldLemmas.{KeepsAll, binds_keep, syncs_keep}
 use Rattle.std.proofs.Common.{add-one}
+use Rattle.std.proofs.lemmas.Bool.{cases_lt}
 
 -- they have its names
 pub binds_named : (file : List ℕ) (n : ℕ) (w : World) → AreNamed (after_binds file n w) file n
@@ -56,6 +60,53 @@ module _ (name : List ℕ) (old bound : World) (done : bound ≡ after_binds nam
       let intact : AreIntact old bound.events = at_end (AreIntact old) old.events bound.events (keeps.intact old refl nothing) in
       intact (slot_name name k) (name_was_bound bound.events k (slot_name name k) is) file
       (subst (λ (n : Name). MayBeLeft bound.events n file) (ap (named_by k) is) outcome)
+
+-- syncs keep names and files
+syncs_named : (file : List ℕ) (m n : ℕ) (w : World) → AreNamed w file m → AreNamed (after_syncs n w) file m
+syncs_named file m zero w named = named
+syncs_named file m (suc n) w named = syncs_named file m n w named
+
+-- the slots have the names and the files of a disk, once they were bound and synced
+pub mounted_holds : (name : List ℕ) (n : ℕ) (old bound mid : World) → bound ≡ after_binds name 9 old → IsTied bound → mid ≡ after_syncs n bound → HoldsFiles name old mid
+mounted_holds name n old bound mid done tied synced =
+    subst (HoldsFiles name old) (sym synced) (record {
+      names = syncs_named name 9 n bound (subst (λ (w : World). AreNamed w name 9) (sym done) (binds_named name 9 old));
+      files = λ slot low. syncs_files n bound slot ∙ bound_holds name old bound done tied slot low;
+    })
+
+-- where only other slots were changed since, the files are as they were
+pub lower_hold : (name : List ℕ) (last : ℕ) (old mid new : World) → HoldsFiles name old mid → IsTied new → LeavesSlots (λ slot. last ≡ slot → ⊥) mid new
+    → AreNamed new name 9 × ((slot : ℕ) → slot ≤ 8 → (last ≡ slot → ⊥) → files_of name new slot ≡ files_of name old slot)
+lower_hold name last old mid new holds tied leaves =
+    let names : AreNamed new name 9 = λ slot less. leaves.names slot ∙ holds.names slot less in
+    (names, λ slot low apart. tied_slot new slot (slot_name name slot) tied (names slot (omega (arith, low))) ∙ (leaves.files slot apart ∙ holds.files slot low))
+
+-- a slot that was synced holds what it held, whatever a stop leaves
+syncs_settle : (n k : ℕ) (w : World) → IsSure w → k < n → EachOutcome k (λ file. file ≡ file_of w k) (after_syncs n w).events
+syncs_settle zero k w sure low = absurd (omega (arith, low))
+syncs_settle (suc n) k w sure low = ⊎_elim
+    (λ (below : k < n). sync_step (λ file. file ≡ file_of w k) k n (after_syncs n w).events (syncs_settle n k w sure below))
+    (λ (here : n ≤ k).
+    let same : k ≡ n = omega (arith, low, here) in
+    subst (λ (s : ℕ). EachOutcome k (λ file. file ≡ file_of w k) (Synced s ∷ (after_syncs n w).events)) same
+    (λ file out. sync_leaves_now k (after_syncs n w).events (syncs_sure n w sure) file out ∙ syncs_files n w k))
+    (cases_lt k n)
+
+-- and so it does where only another slot is changed from then on
+pub lower_stay : (name : List ℕ) (count : ℕ) (old mid new : World) → mid ≡ after_mounting name 9 count old → count ≤ 9 → HoldsFiles name old mid
+    → LeavesSlots (λ slot. count - 1 ≡ slot → ⊥) mid new → IsSure old → (slot : ℕ) → slot < count - 1
+    → AtEach (after_mounting name 9 count old).events new.events (EachOutcome slot (λ file. file ≡ files_of name old slot))
+lower_stay name count old mid new done few holds leaves sure slot low =
+    let w = after_binds name 9 old in
+    let Q = EachOutcome slot (λ file. file ≡ files_of name old slot) in
+    let here : file_of w slot ≡ files_of name old slot =
+    sym (syncs_files count w slot) ∙ (ap (λ (v : World). file_of v slot) (sym done) ∙ holds.files slot (omega (arith, low, few))) in
+    let sure_then : IsSure w = subst IsTrue (sym (binds_keep name 9 old).sure) sure in
+    let first : Q mid.events =
+    subst (λ (v : World). Q v.events) (sym done) (λ file out. syncs_settle count slot w sure_then (omega (arith, low)) file out ∙ here) in
+    subst (λ (v : World). AtEach v.events new.events Q) done
+    (weaker (AreStill (λ other. count - 1 ≡ other → ⊥) mid.events) Q mid.events new.events
+    (λ es still file out. first file (still slot (λ at. absurd (omega (arith, at, low))) file out)) leaves.others)
 
 -- ---- what files open to
 

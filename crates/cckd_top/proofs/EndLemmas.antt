@@ -23,6 +23,7 @@ use Rattle.cckd_engine.specs.declared.engine.Engine.{Engine}
 use Rattle.cckd_engine.specs.declared.disk.Disk.{Ghosts as Making}
 use Rattle.cckd_engine.specs.Engine.{standing, Stands}
 use Rattle.cckd_engine.specs.Lines.{KeepsLine, of_text}
+use Rattle.cckd_engine.proofs.FrameLemmas.{leaves_twice, leaves_puts}
 use Rattle.cckd_console.specs.declared.stop.Stop.TheVariants as stop
 use Rattle.cckd_console.specs.Served.{Served, line_in, all_text}
 use Rattle.cckd_console.specs.Saying.{account_of, untaken}
@@ -52,6 +53,7 @@ closed_ends shows makes limit a b left status is serves =
       alone = serves.does.alone;
       legal = legal_of shows makes limit a b serves.served serves.does;
       stops = λ s0 told stands agrees opens. serves.does.stops s0 [] told stands agrees opens;
+      spares = serves.does.spares.leaves;
       quiet = λ unchanged reads. (serves.does.quiet unchanged reads).1;
     })
 
@@ -66,6 +68,7 @@ cut_ends shows makes limit a b left is serves =
       alone = serves.does.alone;
       legal = legal_of shows makes limit a b serves.served serves.does;
       stops = λ s0 told stands agrees opens. serves.does.stops s0 [] told stands agrees opens;
+      spares = serves.does.spares.leaves;
       quiet = λ unchanged reads. (serves.does.quiet unchanged reads).1;
     })
 
@@ -106,6 +109,9 @@ unscripted_ends shows makes limit a b c left is serves says =
           (shows.world c.stage).events
           (subst (λ (x : Geometry). KeepsLine x s0 (history_of xs) (of_text source_line) (output_of (shows.world b.stage).events)
           (shows.world b.stage).events (shows.world c.stage).events) g second));
+      spares = λ told.
+          leaves_twice (makes.spares a.disk) (shows.world a.stage) (shows.world b.stage) (shows.world c.stage) (serves.does.spares.leaves told)
+          (leaves_puts (makes.spares a.disk) source_line (shows.world b.stage) (shows.world c.stage) (says.puts told));
       quiet = λ unchanged reads told.
           let front = says.puts told in
           only_puts_twice (shows.world a.stage) (shows.world b.stage) (shows.world c.stage) ((serves.does.quiet unchanged reads).1 told)

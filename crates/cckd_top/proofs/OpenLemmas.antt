@@ -1,5 +1,5 @@
 -- The files of a disk that are opened, from their parts.
-use Rattle.std.proofs.Common.{◌≡◌, ℕ, ◌≤◌, false, List, [], Err, refl, sym, ◌∙◌, ap, subst, arith}
+use Rattle.std.proofs.Common.{◌≡◌, ℕ, ◌≤◌, ◌-◌, false, List, [], Err, refl, sym, ◌∙◌, ap, subst, arith}
 use Rattle.cckd_base.specs.Header.{headers_of, layout_of, is_present}
 use Rattle.cckd_base.specs.Image.{IsSnug}
 use Rattle.cckd_base.specs.declared.open_fault.OpenFault.{OpenFault}
@@ -24,7 +24,7 @@ use Rattle.cckd_top.specs.Disk.{with_files}
 use Rattle.cckd_top.specs.Names.{files_of, after_binds, BindsSome}
 use Rattle.cckd_top.specs.Opening.{OpensDisk, CountsOpening, FailsToOpen}
 use Rattle.cckd_top.proofs.WorldLemmas.{binds_keep}
-use Rattle.cckd_top.proofs.BoundLemmas.{bound_holds, bound_sure, bound_each, opens_by, row_by, syncs_keep_lines}
+use Rattle.cckd_top.proofs.BoundLemmas.{mounted_holds, bound_holds, bound_sure, bound_each, opens_by, row_by, syncs_keep_lines}
 
 -- ---- files that don't open
 
@@ -111,15 +111,19 @@ module _ {S D : Type 0} (shows : Showing S) (makes : Making D) (name : List ℕ)
     sure_there told sure = bound_sure name (shows.world start) (shows.world bound) (done told) (tied told) sure
 
     pub opens_disk : engine.calls ≡ 0 → engine.mute ≡ false → Runs (makes.tied engine.disk) engine.broken (seen shows engine.stage)
-        → makes.unchanged engine.disk → OpensDisk shows makes name start engine
-    opens_disk calls heard runs unchanged = record {
+        → makes.unchanged engine.disk → (1 ≤ count) × (count ≤ 9) → ((slot : ℕ) → (count - 1 ≡ slot → ⊥) → makes.spares engine.disk slot)
+        → OpensDisk shows makes name start engine
+    opens_disk calls heard runs unchanged few spares = record {
       calls = calls;
       heard = heard;
       runs = runs;
       faults = quiet ∙ still;
       unchanged = unchanged;
+      holds = λ told. mounted_holds name count (shows.world start) (shows.world bound) (shows.world engine.stage) (done told) (tied told) (synced told);
+      spares = λ told. spares;
       done = λ told. record {
         count = count;
+        few = few;
         row = λ sure. row_by (file_of (shows.world bound)) (files_of name (shows.world start)) count (holds told) (row told (sure_there told sure));
         done = synced told ∙ ap (after_syncs count) (done told);
       };

@@ -1,10 +1,10 @@
 -- What a run promises of the disk that it serves.
-use Rattle.std.specs.Prelude.{◌≡◌, ◌++◌, ℕ, true, List, [], ◌∷◌, None}
+use Rattle.std.specs.Prelude.{◌≡◌, ◌<◌, ◌≤◌, ◌-◌, ◌++◌, ℕ, true, List, [], ◌∷◌, None}
 use Rattle.cckd_base.specs.declared.geometry.Geometry.{Geometry}
 use Rattle.cckd_shelf.specs.Events.{Event, output_of, file_now}
 use Rattle.cckd_shelf.specs.Seen.{Seen, Tells}
 use Rattle.cckd_shelf.specs.World.{World, IsSure}
-use Rattle.cckd_shelf.specs.Outcomes.{AtEach}
+use Rattle.cckd_shelf.specs.Outcomes.{EachOutcome, OthersStill, AtEach}
 use Rattle.cckd_stack.specs.Layers.{Stack}
 use Rattle.cckd_stack.specs.History.{Entry, History, IsLegal, broken_at, stack_after}
 use Rattle.cckd_stack.specs.Stops.{Survives, hardens}
@@ -14,7 +14,7 @@ use Rattle.cckd_stack.specs.Mounting.{IsRow}
 use Rattle.cckd_stack.specs.Called.{AreSnug}
 use Rattle.cckd_engine.specs.Lines.{Line, LinesAt, history_onto}
 use Rattle.cckd_console.specs.Served.{Served, AreAlone, OnlyRead}
-use Rattle.cckd_top.specs.Names.{files_of, after_binds}
+use Rattle.cckd_top.specs.Names.{files_of, after_binds, AreNamed}
 use Rattle.cckd_top.specs.World.{TellsFiles, NothingIsOpen, OnlyMounts, after_mounting}
 use Rattle.cckd_top.specs.Run.{Way, lines_of, history_of}
 
@@ -54,6 +54,20 @@ pub record KeepsDisk (name : List ℕ) (g : Geometry) (s0 : Stack) (lines : List
   pub after : EachOpens g (Survives g s0 (history_onto lines [])) new.events
   pub last : EndsHardened (history_onto lines []) → Opens g (file_now new.events) (stack_after g s0 (history_onto lines []))
 
+-- The nine slots got their files, one after another, and each that is there was synced, the base first. All else comes behind that,
+-- and from then on nothing is done but to the file of the last of these: at each operation whatever a stop leaves of another slot's
+-- file it could leave before; of those below the last one it is what they held at the start. At the end each slot has its name, and
+-- the other ones hold what they held.
+pub record SparesLower (name : List ℕ) (old new : World) : Type 0 where
+  pub count : ℕ
+  pub few : (1 ≤ count) × (count ≤ 9)
+  pub row : IsSure old → IsRow (files_of name old) count
+  pub others : AtEach (after_mounting name 9 count old).events new.events (OthersStill (count - 1) (after_mounting name 9 count old).events)
+  pub stay : IsSure old → (slot : ℕ) → slot < count - 1
+      → AtEach (after_mounting name 9 count old).events new.events (EachOutcome slot (λ file. file ≡ files_of name old slot))
+  pub names : AreNamed new name 9
+  pub files : (slot : ℕ) → slot ≤ 8 → (count - 1 ≡ slot → ⊥) → files_of name new slot ≡ files_of name old slot
+
 -- the files of a disk open to this stack, as they are told at the start
 pub record OpensAt (name : List ℕ) (g : Geometry) (s0 : Stack) (s : Seen) : Type 0 where
   pub tells : TellsFiles s
@@ -70,5 +84,7 @@ pub record RunsDisk (name : List ℕ) (way : Way) (xs : List Served) (old new : 
   -- where each file was snug and nothing stood open, whatever a stop leaves is what the calls may leave
   pub stops : (s0 : Stack) → OpensAt name geometry s0 old → AreSnug (files_of name old.world) → NothingIsOpen old.world
       → KeepsDisk name geometry s0 (lines_of way xs) old.world new.world
+  -- in any case each file that is there is synced, and then none is changed but the last one
+  pub spares : Tells old → SparesLower name old.world new.world
   -- where no call writes, each file that is there is synced, and none is changed
   pub quiet : Tells old → OnlyRead xs → OnlyReadsFiles name old.world new.world

@@ -9,6 +9,7 @@ use Rattle.cckd_stack.specs.Stops.{Survives}
 use Rattle.cckd_stack.specs.Moments.{EachOpens}
 use Rattle.cckd_engine.specs.declared.engine.Engine.{Engine}
 use Rattle.cckd_engine.specs.declared.disk.Disk.{Ghosts as Making}
+use Rattle.cckd_engine.specs.Frame.{LeavesSlots}
 use Rattle.cckd_engine.specs.Engine.{standing, Stands, TellsStops}
 use Rattle.cckd_console.specs.Served.{Served, AreAlone, OnlyRead}
 use Rattle.cckd_console.specs.Serving.{KeepsLines, OnlyPuts}
@@ -30,6 +31,7 @@ pub record EndsScript {S D : Type 0} (shows : Showing S) (makes : Making D) (lim
       → EachOpens (makes.geometry old.disk) (Survives (makes.geometry old.disk) s0 []) (shows.world old.stage).events
       → KeepsLines (makes.geometry old.disk) s0 [] (lines_of way served) (output_of (shows.world old.stage).events)
       (shows.world old.stage).events (shows.world new).events
+  pub spares : Tells (seen shows old.stage) → LeavesSlots (makes.spares old.disk) (shows.world old.stage) (shows.world new)
   pub quiet : makes.unchanged old.disk → OnlyRead served → Tells (seen shows old.stage) → OnlyPuts (shows.world old.stage) (shows.world new)
 
 -- The line of a script that couldn't be taken was put, as far as the output took it, and nothing else was done.

@@ -1,5 +1,5 @@
 -- What becomes of the files of a disk when they are opened.
-use Rattle.std.specs.Prelude.{◌≡◌, ◌<◌, ◌≤◌, ℕ, false, List, [], Result, Ok, Err}
+use Rattle.std.specs.Prelude.{◌≡◌, ◌<◌, ◌≤◌, ◌-◌, ℕ, false, List, [], Result, Ok, Err}
 use Rattle.cckd_base.specs.declared.open_fault.OpenFault.{OpenFault}
 use Rattle.cckd_base.specs.declared.open_fault.OpenFault.TheVariants as open_fault
 use Rattle.cckd_shelf.specs.declared.shows.Shows.{Ghosts as Showing}
@@ -8,7 +8,7 @@ use Rattle.cckd_shelf.specs.declared.fault.Kind.TheVariants.{Reads, Syncs}
 use Rattle.cckd_shelf.specs.Faults.{Raises}
 use Rattle.cckd_shelf.specs.Events.{output_of}
 use Rattle.cckd_shelf.specs.Seen.{Seen, seen, Tells}
-use Rattle.cckd_shelf.specs.World.{World, IsSure}
+use Rattle.cckd_shelf.specs.World.{World, IsSure, file_of}
 use Rattle.cckd_stack.specs.Layers.{Stack}
 use Rattle.cckd_stack.specs.Opened.{Opens}
 use Rattle.cckd_stack.specs.Mounting.{IsRow, IsMountCause}
@@ -17,15 +17,21 @@ use Rattle.cckd_engine.specs.declared.engine.Engine.{Engine}
 use Rattle.cckd_engine.specs.declared.disk.Disk.{Ghosts as Making}
 use Rattle.cckd_engine.specs.Engine.{standing, Stands, Runs, TellsStops}
 use Rattle.cckd_console.specs.Serving.{KeepsLines}
-use Rattle.cckd_top.specs.Names.{files_of, after_binds}
+use Rattle.cckd_top.specs.Names.{files_of, after_binds, AreNamed}
 use Rattle.cckd_top.specs.World.{TellsFiles, NothingIsOpen, after_mounting}
 use Rattle.cckd_top.specs.Disk.{with_files, OpensAt}
 
 -- the nine slots got their files, and each that is there was synced, and nothing else was done
 pub record IsMountedFrom (name : List ℕ) (old new : World) : Type 0 where
   pub count : ℕ
+  pub few : (1 ≤ count) × (count ≤ 9)
   pub row : IsSure old → IsRow (files_of name old) count
   pub done : new ≡ after_mounting name 9 count old
+
+-- each slot has the name and the file of its own
+pub record HoldsFiles (name : List ℕ) (old new : World) : Type 0 where
+  pub names : AreNamed new name 9
+  pub files : (slot : ℕ) → slot ≤ 8 → file_of new slot ≡ files_of name old slot
 
 -- what stops leave of a disk that was opened, up to then, is that stack, and it is told what they leave from then on
 pub record StopsOpen {S D : Type 0} (shows : Showing S) (makes : Making D) (name : List ℕ) (s0 : Stack) (old : World) (new : Engine S D) : Type 0 where
@@ -40,6 +46,8 @@ pub record OpensDisk {S D : Type 0} (shows : Showing S) (makes : Making D) (name
   pub faults : shows.faults new.stage ≡ shows.faults old
   pub unchanged : makes.unchanged new.disk
   pub done : Tells (seen shows old) → IsMountedFrom name (shows.world old) (shows.world new.stage)
+  pub holds : Tells (seen shows old) → HoldsFiles name (shows.world old) (shows.world new.stage)
+  pub spares : (told : Tells (seen shows old)) (slot : ℕ) → ((done told).count - 1 ≡ slot → ⊥) → makes.spares new.disk slot
   pub mounted : TellsFiles (seen shows old) → (s0 : Stack) × Opens (makes.geometry new.disk) (files_of name (shows.world old)) s0
   pub stands : (s0 : Stack) → OpensAt name (makes.geometry new.disk) s0 (seen shows old) → Stands s0 [] (standing shows makes new)
   pub stops : (s0 : Stack) → OpensAt name (makes.geometry new.disk) s0 (seen shows old) → AreSnug (files_of name (shows.world old))

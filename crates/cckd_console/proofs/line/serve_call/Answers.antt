@@ -27,6 +27,7 @@ returns-clause-serves g c =
         stands = does.stands;
         runs = λ runs. does.runs;
         agrees = does.agrees;
+        spares = does.spares;
         stops = λ s0 h told stands tells left.
             keeps_one (g.D.Disk.geometry c.args.engine.now.disk) s0 h (of_call e) _ _ _ (does.stops s0 h told stands tells left);
         quiet = λ same reads.

@@ -9,6 +9,7 @@ use Rattle.cckd_engine.specs.Calls.{asks, answer_in}
 use Rattle.cckd_engine.specs.Performs.{Performs}
 use Rattle.cckd_stack.proofs.SomeLemmas.{files_some, sure_changed}
 use Rattle.cckd_engine.proofs.CallLemmas.{harden_does, still_quiet}
+use Rattle.cckd_engine.proofs.FrameLemmas.{closes_spare}
 use Rattle.cckd_engine.proofs.TrackCallLemmas.{done_plain}
 use Rattle.cckd_engine.proofs.stack_disk.close.Goals as goal
 
@@ -28,5 +29,6 @@ returns g c = λ given out.
     (harden_does old new before after c.requires.can (λ told. told) made done.geometry done.broken done.stops
     (λ told. record { output = (done.others told).output; script = (done.others told).script })
     (files_some old.layers new.layers done.files c.requires.stack.some) (λ told. sure_changed old.layers before.world after.world (done.others told))
+    (closes_spare old new before after done.files done.calm done.others)
     call.Close given reply.Closed refl refl refl refl refl done.map done.settles done.refusal done.counts
     (λ unchanged. let still = done.still (unchanged) in still_quiet old new before after still.1 still.2 unchanged))

@@ -11,6 +11,7 @@ use Rattle.cckd_layer.specs.Writes.{IsSameLayer}
 use Rattle.cckd_layer.proofs.SureLemmas.{sure_spared}
 use Rattle.cckd_stack.proofs.SomeLemmas.{changes_some}
 use Rattle.cckd_engine.proofs.CallLemmas.{harden_does, still_quiet}
+use Rattle.cckd_engine.proofs.FrameLemmas.{changes_spare}
 use Rattle.cckd_engine.proofs.TrackCallLemmas.{done_plain}
 use Rattle.cckd_engine.proofs.stack_disk.harden.Goals as goal
 
@@ -30,5 +31,6 @@ returns g c = λ given out.
     (harden_does old new before after c.requires.can (λ told. told) made done.geometry done.broken done.stops
     (λ told. record { output = (done.others told).output; script = (done.others told).script })
     (changes_some IsSameLayer old.layers new.layers done.last) (λ told. sure_spared (length old.layers - 1) before.world after.world (done.others told))
+    (changes_spare IsSameLayer (λ s next same. same.slot) old new before after c.requires.stack.layers done.last done.others)
     call.Harden given reply.Hardened refl refl refl refl refl done.map done.settles done.refusal done.counts
     (λ unchanged. let still = done.still (unchanged_last c.args.disk.now.layers c.requires.stack.some unchanged) in still_quiet old new before after still.1 still.2 unchanged))

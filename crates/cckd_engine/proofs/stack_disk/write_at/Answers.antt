@@ -1,4 +1,4 @@
-use Rattle.std.proofs.Common.{◌≡◌, ◌-◌, length, Some, None, refl, sym, ap, ◌∙◌, subst}
+use Rattle.std.proofs.Common.{◌-◌, length, Some, None, refl, sym, ap, ◌∙◌, subst}
 use Rattle.cckd_base.specs.declared.call.Call.TheVariants as call
 use Rattle.cckd_base.specs.declared.reply.Reply.{Reply}
 use Rattle.cckd_base.specs.declared.reply.Reply.TheVariants as reply
@@ -10,6 +10,7 @@ use Rattle.cckd_stack.proofs.SomeLemmas.{changes_some}
 use Rattle.cckd_engine.specs.Calls.{asks, answer_in}
 use Rattle.cckd_engine.specs.Performs.{Performs}
 use Rattle.cckd_engine.proofs.CallLemmas.{no_track}
+use Rattle.cckd_engine.proofs.FrameLemmas.{changes_spare}
 use Rattle.cckd_engine.proofs.TrackCallLemmas.{none_such, looked_up, done_plain, write_does}
 use Rattle.cckd_engine.proofs.stack_disk.write_at.Goals as goal
 
@@ -35,4 +36,5 @@ returns g c = λ out.
     (write_does old new before after c.requires.can (λ told. told) made done.geometry done.broken done.stops
     (λ told. record { output = (done.others told).output; script = (done.others told).script })
     (changes_some IsSameFile old.layers new.layers done.last) (λ told. sure_spared (length old.layers - 1) before.world after.world (done.others told))
+    (changes_spare IsSameFile (λ s next same. same.slot) old new before after c.requires.stack.layers done.last done.others)
     at c.in-Some.t.0 here given done.stores done.checked done.map done.refusal done.counts)

@@ -2,7 +2,7 @@ use Rattle.std.proofs.Common.{◌+◌, ◌-◌, length, Err, ap, arith, get_or}
 use Rattle.std.proofs.lemmas.Bool.{false≢true}
 use Rattle.cckd_shelf.specs.Seen.{Seen, seen}
 use Rattle.cckd_layer.specs.Mounted.{LayerState}
-use Rattle.cckd_stack.proofs.CloseLemmas.{none_closed, reads_here, next_slots, next_files, next_keeps, next_lies, next_spares, unchanged_now, one_closed}
+use Rattle.cckd_stack.proofs.CloseLemmas.{none_closed, reads_here, next_slots, next_files, next_keeps, next_lies, next_spares, next_calm, unchanged_now, one_closed}
 use Rattle.cckd_stack.proofs.WritesLemmas.{whole_keeps}
 use Rattle.cckd_stack.proofs.closing.close_each.Goals as goal
 
@@ -73,6 +73,17 @@ returns-in-Err-clause-others g c =
     (ap (λ (d : LayerState). get_or now n d) c.index-layers-count.is) (omega (arith, c.loop-done-test.true))
     c.close.new.self (seen g.T.Shows c.close.new.stage) (λ told. told) c.close.ensures.same c.close.ensures.others
     (λ unmarked hardened. ap (λ (s : Seen). s.world) (c.close.ensures.still unmarked hardened).2)
+
+pub returns-in-Err-clause-calm : goal.returns-in-Err-clause-calm
+returns-in-Err-clause-calm g c =
+    let start = c.args.layers.now in
+    let now = c.loop-done.layers in
+    let n = length start - 1 - c.loop-done.done in
+    let x = get_or now n c.index-layers-count.result in
+    next_calm g.U.Unit.null_bytes c.args.geo.now start now (seen g.T.Shows c.args.stage.now) (seen g.T.Shows c.loop-done.stage) (length start - c.loop-done.done) n (λ told. told) c.loop-done.invariant (omega (arith, c.loop-done-test.true)) x
+    (ap (λ (d : LayerState). get_or now n d) c.index-layers-count.is) (omega (arith, c.loop-done-test.true))
+    c.close.new.self (seen g.T.Shows c.close.new.stage) (λ told. told) c.close.ensures.same c.close.ensures.others
+    (λ unmarked hardened. (c.close.ensures.still unmarked hardened).1)
 
 pub returns-in-Err-clause-still : goal.returns-in-Err-clause-still
 returns-in-Err-clause-still g c = λ calm.

@@ -14,7 +14,7 @@ returns-in-Ok-mount g c =
     opens_disk g.T.Shows _ c.args.file.now c.args.stage c.bind_all.new.stage c.in-Ok-mount.engine (length c.in-Ok-mount.engine.disk.layers)
     c.in-Ok.ensures.bound c.in-Ok.ensures.fails.still (λ told. g.T.Shows.tied c.bind_all.new.stage told) of.synced of.counts
     (λ told sure. (of.mounted told sure).row) of.opens of.stands of.agrees of.new.calls of.new.mute
-    of.runs of.unchanged
+    of.runs of.unchanged of.few of.spares
 
 pub returns-in-Err : goal.returns-in-Err
 returns-in-Err g c =

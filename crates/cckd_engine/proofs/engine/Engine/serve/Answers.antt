@@ -2,6 +2,7 @@ use Rattle.std.proofs.Common.{◌≡◌, Bool, true, false, not, refl, sym, ◌�
 use Rattle.cckd_shelf.specs.Seen.{Seen, seen}
 use Rattle.cckd_script.specs.Text.{answered_bytes, reply_line}
 use Rattle.cckd_engine.specs.Calls.{asks, answer_in}
+use Rattle.cckd_engine.proofs.FrameLemmas.{spares_and_puts}
 use Rattle.cckd_engine.proofs.ServeLemmas.{stands_at_puts, serves_line, tells_at_puts, front_put, whole_put}
 use Rattle.cckd_engine.proofs.engine.Engine.serve.Goals as goal
 
@@ -53,3 +54,10 @@ returns-clause-script g c = λ told. (c.put_line-self.ensures.front told).put.sc
 
 pub returns-clause-one : goal.returns-clause-one
 returns-clause-one g c = λ heard. c.put_line-self.ensures.one (c.step-reply.ensures.mute ∙ heard)
+
+pub returns-clause-spares : goal.returns-clause-spares
+returns-clause-spares g c =
+    spares_and_puts (g.D.Disk.spares c.args.self.now.disk) (g.D.Disk.spares c.step-reply.new.self.disk)
+    (reply_line c.args.call c.step-reply.result (answered_bytes c.step-reply.result c.step-reply.new.out))
+    (seen g.T.Shows c.args.self.now.stage) (seen g.T.Shows c.step-reply.new.self.stage) (seen g.T.Shows c.put_line-self.new.stage) (λ told. told)
+    c.step-reply.ensures.spares c.put_line-self.ensures.front

@@ -1,11 +1,16 @@
 use Rattle.std.proofs.Common.{◌≡◌, ◌+◌, Bool, true, false, refl, sym, ◌∙◌, ap}
 use Rattle.cckd_stack.specs.History.{reply_breaks}
+use Rattle.cckd_shelf.specs.Seen.{seen}
+use Rattle.cckd_engine.proofs.FrameLemmas.{spares_still}
 use Rattle.cckd_engine.proofs.StepLemmas.{number_if, stands_next, keeps_next, keeps_still}
 use Rattle.cckd_engine.proofs.engine.Engine.step.Goals as goal
 
 pub returns-in-Some-clause-stops : goal.returns-in-Some-clause-stops
 returns-in-Some-clause-stops g c = λ session s0 h told stands tells left.
     keeps_still _ s0 h _ _ _ _ stands refl left c.in-Some.at c.in-Some.is refl
+
+pub returns-in-Some-clause-spares : goal.returns-in-Some-clause-spares
+returns-in-Some-clause-spares g c = spares_still (g.D.Disk.spares c.args.self.now.disk) (seen g.T.Shows c.args.self.now.stage)
 
 pub returns-then-breaks-clause-stands : goal.returns-then-breaks-clause-stands
 returns-then-breaks-clause-stands g c = λ session s0 h told stands.

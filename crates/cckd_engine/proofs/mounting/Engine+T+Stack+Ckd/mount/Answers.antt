@@ -1,7 +1,8 @@
-use Rattle.std.proofs.Common.{ap, sym, subst}
+use Rattle.std.proofs.Common.{◌≤◌, length, ap, sym, subst}
 use Rattle.cckd_stack.specs.Stacked.{StackState}
 use Rattle.cckd_stack.specs.Writes.{AreUnchanged}
 use Rattle.cckd_shelf.specs.Seen.{seen}
+use Rattle.cckd_engine.proofs.FrameLemmas.{unchanged_lower}
 use Rattle.cckd_engine.proofs.MountLemmas.{just_by, just_opens, just_new, just_runs, just_agrees, just_stops, fresh_unchanged}
 use Rattle.cckd_engine.proofs.mounting.Engine+T+Stack+Ckd.mount.Goals as goal
 
@@ -89,3 +90,12 @@ returns-in-Ok-clause-stands g c =
 pub returns-in-Ok-clause-unchanged : goal.returns-in-Ok-clause-unchanged
 returns-in-Ok-clause-unchanged g c =
     subst (λ (s : StackState). AreUnchanged s.layers) (sym c.new.ensures.disk) (fresh_unchanged c.args.limit 0 c.in-Ok.disk.layers c.in-Ok.ensures.fresh)
+
+pub returns-in-Ok-clause-spares : goal.returns-in-Ok-clause-spares
+returns-in-Ok-clause-spares g c =
+    unchanged_lower c.new.result.disk
+    (subst (λ (s : StackState). AreUnchanged s.layers) (sym c.new.ensures.disk) (fresh_unchanged c.args.limit 0 c.in-Ok.disk.layers c.in-Ok.ensures.fresh))
+
+pub returns-in-Ok-clause-few : goal.returns-in-Ok-clause-few
+returns-in-Ok-clause-few g c =
+    subst (λ (s : StackState). (1 ≤ length s.layers) × (length s.layers ≤ 9)) (sym c.new.ensures.disk) (c.in-Ok.ensures.stack.some, c.in-Ok.ensures.stack.few)
