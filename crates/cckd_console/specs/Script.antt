@@ -43,7 +43,7 @@ pub record OfTheScript (limit : ℕ) (script left : List ℕ) (served : List Ser
 abbrev pub most_ahead : ℕ
 most_ahead = 196608
 
--- A script was read up to the end of a line, and within its limit some bytes were taken ahead.
+-- a script was read up to the end of a line, and within its limit a few bytes were taken ahead
 pub record IsTakenTo (limit : ℕ) (script left read : List ℕ) : Type 0 where
   pub ahead : List ℕ
   pub split : script ≡ read ++ (ahead ++ left)
@@ -65,15 +65,15 @@ pub record OfALine (limit : ℕ) (script left : List ℕ) (served : List Served)
   pub last : LastAsks read
   pub asked : map item_in served ≡ items_of_lines (lines_of read)
 
--- The last that was served is of a line, or of what is past the limit, or it is the close. Behind its line nothing was taken but
--- some bytes ahead, and else the script was read out.
+-- The last of what was served answers a line, and hardly more was taken; or it refuses what is past the limit, or is the close,
+-- and the script was read out.
 pub data EndsIn (limit : ℕ) (script left : List ℕ) (served : List Served) : Type 0 where
   in_a_line : OfALine limit script left served → EndsIn limit script left served
   past_the_limit : limit < length script → map item_in served ++ closing ≡ script_items limit script → IsReadOut limit script left
       → EndsIn limit script left served
   in_the_close : OfTheScript limit script left served → EndsIn limit script left served
 
--- what was served is of a front of the script's items, and it is told what was taken by then
+-- it is of a front of the script's items, and that is all that was taken but for a few bytes ahead
 pub record OfACut (limit : ℕ) (script left : List ℕ) (served : List Served) : Type 0 where
   pub front : OfAFront limit script served
   pub taken : EndsIn limit script left served

@@ -1,18 +1,23 @@
 -- Files open to one stack at most, and what mounting says of it.
-use Rattle.std.proofs.Common.{◌≡◌, ⊎_elim, ℕ, zero, suc, ◌+◌, ◌<◌, ◌≤◌, true, false, List, [], ◌∷◌, length, refl, sym, ◌∙◌, ap, subst, arith}
+use Rattle.std.proofs.Common.{◌≡◌, ⊎_elim, ℕ, zero, suc, ◌+◌, ◌<◌, ◌≤◌, max, true, false, List, [], ◌∷◌, length, Some, None, refl, sym, ◌∙◌, ap, subst, arith}
 use Rattle.std.proofs.lemmas.Bool.{cases_lt, false≢true}
 use Rattle.cckd_base.specs.declared.geometry.Geometry.{Geometry}
 use Rattle.cckd_base.specs.declared.geometry.Layout.{Layout}
-use Rattle.cckd_base.specs.Header.{base_identifier, shadow_identifier, is_present}
+use Rattle.cckd_base.specs.declared.open_fault.OpenFault.{OpenFault}
+use Rattle.cckd_base.specs.declared.open_fault.OpenFault.TheVariants as open_fault
+use Rattle.cckd_base.specs.Header.{base_identifier, shadow_identifier, headers_of, header_geometry, layout_of, is_present}
+use Rattle.cckd_base.specs.Survey.{misfits}
 use Rattle.cckd_shelf.specs.World.{World, file_of}
 use Rattle.cckd_shelf.specs.Outcomes.{EachOutcome}
 use Rattle.cckd_shelf.proofs.OutcomeLemmas.{sync_step}
-use Rattle.cckd_base.specs.Image.{IsSnug}
+use Rattle.cckd_base.specs.Image.{IsSnug, IsSound}
+use Rattle.cckd_base.specs.declared.misfit.Misfit.{Misfit}
+use Rattle.cckd_tables.specs.Scan.{first_misfit}
 use Rattle.cckd_layer.specs.Mounted.{LayerState}
 use Rattle.cckd_stack.specs.Layers.{Layer, Stack, base, shadow, layer_count}
 use Rattle.cckd_stack.specs.Opened.{HoldsLayer, StandIn, Opens, held_tracks}
 use Rattle.cckd_stack.specs.Stacked.{StackState}
-use Rattle.cckd_stack.specs.Mounting.{IsMounted, AreOfFrom, after_syncs}
+use Rattle.cckd_stack.specs.Mounting.{IsMounted, AreOfFrom, HasRow, IsGap, IsImageIn, IsFileCase, IsRefused, identifiers_in, shape_of, after_syncs}
 use Rattle.cckd_stack.specs.Writes.{AreSnugFrom, AreAbsentAbove}
 use Rattle.cckd_stack.specs.Called.{AreSnug, StayAbsent}
 use Rattle.cckd_stack.proofs.FirstLemmas.{headed_present}
@@ -62,6 +67,72 @@ pub opens_once : (g : Geometry) (files : ℕ → List ℕ) (s other : Stack) →
 opens_once g files s other h i =
     let same : layer_count s ≡ layer_count other = omega (arith, no_fewer g files s other h i, no_fewer g files other s i h) in
     stand_once g files s other same h.stand i.stand
+
+-- ---- files that open have no case
+
+held_image : (identifier : List ℕ) (g : Geometry) (file : List ℕ) (m : Layer) → HoldsLayer identifier g file m
+    → IsSound (identifier ∷ []) (layout_of (headers_of file)) file × (header_geometry (headers_of file) ≡ g)
+held_image identifier g file m h = (
+  subst (λ (l : Layout). IsSound (identifier ∷ []) l file) h.sound.headed.says h.sound,
+  sym (ap (λ (l : Layout). l.geo) h.sound.headed.says) ∙ h.geometry,
+)
+
+shadows_in : (n : ℕ) → 1 ≤ n → identifiers_in n ≡ shadow_identifier ∷ []
+shadows_in zero some = absurd (omega (arith, some))
+shadows_in (suc n) some = refl
+
+-- the slot of each layer has an image of the geometry
+stand_image : (g : Geometry) (files : ℕ → List ℕ) (s : Stack) (slot : ℕ) → slot < layer_count s → StandIn g files s → IsImageIn g slot (files slot)
+stand_image g files (base layer) slot low h =
+    let first : 0 ≡ slot = omega (arith, low) in
+    let k = held_image base_identifier g (files 0) layer h in
+    subst (λ (n : ℕ). IsImageIn g n (files n)) first (record { sound = k.0; same = k.1 })
+stand_image g files (shadow layer lower) slot low h = ⊎_elim
+    (λ (less : slot < layer_count lower). stand_image g files lower slot less h.0)
+    (λ (most : layer_count lower ≤ slot).
+    let n = layer_count lower in
+    let last : n ≡ slot = omega (arith, low, most) in
+    let k = held_image shadow_identifier g (files n) layer h.1 in
+    subst (λ (m : ℕ). IsImageIn g m (files m)) last (record {
+      sound = subst (λ (ids : List (List ℕ)). IsSound ids (layout_of (headers_of (files n))) (files n)) (sym (shadows_in n (count_some lower))) k.0;
+      same = k.1;
+    }))
+    (cases_lt slot (layer_count lower))
+
+none_first : (m : Misfit) (found : List Misfit) → found ≡ [] → first_misfit found ≡ Some m → ⊥
+none_first m found none is = absurd (let e = sym (ap first_misfit none) ∙ is in cc e)
+
+image_caseless : (g shape : Geometry) (slot : ℕ) (file : List ℕ) (why : OpenFault) → shape ≡ g → IsImageIn g slot file → IsFileCase shape slot file why → ⊥
+image_caseless g shape slot file (open_fault.Header at fault) same image case = absurd (let e = sym image.sound.headed.sound ∙ case.1 in cc e)
+image_caseless g shape slot file (open_fault.Mismatch at first found) same image case = case.4 (case.3 ∙ image.same ∙ sym same ∙ sym case.1)
+image_caseless g shape slot file (open_fault.Scan at why) same image case = none_first why (misfits (layout_of (headers_of file)) file) image.sound.clean case.3
+image_caseless g shape slot file (open_fault.Gap at) same image case = case
+image_caseless g shape slot file open_fault.ReadFault same image case = case
+image_caseless g shape slot file open_fault.WriteFault same image case = case
+image_caseless g shape slot file open_fault.SyncFault same image case = case
+image_caseless g shape slot file open_fault.Memory same image case = case
+
+row_low : (g : Geometry) (files : ℕ → List ℕ) (s : Stack) → Opens g files s → (count slot : ℕ) → HasRow files count → slot < max 1 count → slot < layer_count s
+row_low g files s h zero slot row low = absurd (false≢true (sym row ∙ stand_present g files s 0 (omega (arith, count_some s)) h.stand))
+row_low g files s h (suc n) slot row low = ⊎_elim
+    (λ (less : slot < layer_count s). less)
+    (λ (most : layer_count s ≤ slot). absurd (false≢true (sym (h.above slot most (omega (arith, low, row.few))) ∙ row.there slot (omega (arith, low)))))
+    (cases_lt slot (layer_count s))
+
+-- none of them is refused
+pub opens_caseless : (g : Geometry) (files : ℕ → List ℕ) (s : Stack) → Opens g files s → (why : OpenFault) → IsRefused files why → ⊥
+opens_caseless g files s h why r =
+    let shape : shape_of files ≡ g = (stand_image g files s 0 (omega (arith, count_some s)) h.stand).same in
+    let slot = r.first.slot in
+    image_caseless g (shape_of files) slot (files slot) why shape (stand_image g files s slot (row_low g files s h r.count slot r.row r.first.low) h.stand) r.first.case
+
+-- and none is there above one that isn't
+pub opens_gapless : (g : Geometry) (files : ℕ → List ℕ) (s : Stack) → Opens g files s → (slot : ℕ) → IsGap files slot → ⊥
+opens_gapless g files s h slot gap = ⊎_elim
+    (λ (less : slot < layer_count s).
+    false≢true (sym (gap.none gap.count (omega arith) gap.above) ∙ stand_present g files s gap.count (omega (arith, gap.above, less)) h.stand))
+    (λ (most : layer_count s ≤ slot). false≢true (sym (h.above slot most gap.within) ∙ gap.is))
+    (cases_lt slot (layer_count s))
 
 -- ---- what is snug, and what isn't there
 

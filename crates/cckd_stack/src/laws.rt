@@ -26,7 +26,8 @@ ghost use Rattle.cckd_stack.specs.Opened.{Opens};
 ghost use Rattle.cckd_stack.specs.Called.{AreSnug, StayAbsent};
 ghost use Rattle.cckd_stack.specs.Tops.{HoldsLies, laters_of};
 ghost use Rattle.cckd_stack.specs.Stacked.{StackState, IsStack, AreLayersFrom, CanReadAll, OnlyCaches, InLayer, stack_of};
-ghost use Rattle.cckd_stack.specs.Mounting.{IsMounted, AreFreshFrom, StandFrom, after_syncs};
+ghost use Rattle.cckd_base.specs.declared.open_fault.OpenFault.{OpenFault};
+ghost use Rattle.cckd_stack.specs.Mounting.{IsMounted, AreFreshFrom, StandFrom, IsGap, IsRefused, after_syncs};
 ghost use Rattle.cckd_stack.specs.Writes.{AgreeAll, AreTied, AreUnchanged, IsHardenedLast, AreSnugFrom, AreAbsentAbove, KeepsStack, KeepsEach, StoresOnTop, HasHardening, StopsLie, StopsSettle, with_pair_on_top, all_mounted, all_hardened, with_written, reply_by, is_broken_by, OnlyHardens, asks};
 
 /// The files open to the stack that is mounted of them.
@@ -35,10 +36,12 @@ pub fn mounted_opens()
         → Opens s.geometry files (stack_of null_track s.layers files) }
 {}
 
-/// The files open to one stack at most. Of the files that are mounted the snug ones are those of layers, and no stop leaves
-/// a file above the layers where none is.
+/// The files open to one stack at most, and those that do have no case by which they are refused. Of the files that are mounted the
+/// snug ones are those of layers, and no stop leaves a file above the layers where none is.
 pub fn files_open_once()
     ensures once { (g : Shape) (files : ℕ → List ℕ) (s other : Layered) → Opens g files s → Opens g files other → s ≡ other }
+    ensures gapless { (g : Shape) (files : ℕ → List ℕ) (s : Layered) → Opens g files s → (slot : ℕ) → IsGap files slot → ⊥ }
+    ensures caseless { (g : Shape) (files : ℕ → List ℕ) (s : Layered) → Opens g files s → (why : OpenFault) → IsRefused files why → ⊥ }
     ensures snug { (files : ℕ → List ℕ) (s : StackState) → AreSnug files → IsMounted files s → AreSnugFrom files 0 s.layers }
     ensures absent { (w : World) (s : StackState) → StayAbsent w → IsMounted (file_of w) s → AreAbsentAbove (length s.layers) (after_syncs (length s.layers) w) }
 {}
