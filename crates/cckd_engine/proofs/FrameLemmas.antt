@@ -1,11 +1,11 @@
 -- What is left alone: by nothing, by two in a row, where text is put or taken, and by each call of a stack.
-use Rattle.std.proofs.Common.{◌≡◌, ℕ, suc, ◌-◌, List, [], ◌∷◌, ◌++◌, length, map, take, refl, sym, ◌∙◌, ap, subst, arith}
+use Rattle.std.proofs.Common.{◌≡◌, ℕ, suc, ◌-◌, List, [], ◌∷◌, ◌++◌, length, map, take, Option, refl, sym, ◌∙◌, ap, subst, arith}
 use Rattle.std.proofs.lemmas.List.{length-append}
 use Rattle.cckd_base.specs.declared.geometry.Geometry.{Geometry}
-use Rattle.cckd_shelf.specs.Events.{Event, name_of, file_now}
+use Rattle.cckd_shelf.specs.Events.{Event, file_now}
 use Rattle.cckd_shelf.specs.World.{World}
 use Rattle.cckd_shelf.specs.Outcomes.{OthersStill, AtEach}
-use Rattle.cckd_shelf.specs.Frame.{SparesOthers, OnlyIn, PutsFront, PutsSome}
+use Rattle.cckd_shelf.specs.Frame.{KeepNames, SparesOthers, OnlyIn, PutsFront, PutsSome}
 use Rattle.cckd_shelf.specs.Seen.{Seen, Tells, Stays}
 use Rattle.cckd_shelf.proofs.MomentLemmas.{at_once, at_end, joins, weaker}
 use Rattle.cckd_shelf.proofs.PutLemmas.{at_puts, name_at_puts, file_at_puts, outcome_at_puts}
@@ -22,14 +22,16 @@ use Rattle.cckd_engine.specs.Frame.{AreStill, LeavesSlots, Spares, IsLower}
 pub leaves_none : (P : ℕ → Type 0) (w : World) → LeavesSlots P w w
 leaves_none P w = record {
   others = at_once (AreStill P w.events) w.events (λ slot left file h. h);
-  names = λ slot. refl;
+  named = at_once (KeepNames w.events) w.events (λ slot. refl);
+  held = λ name free. refl;
   files = λ slot left. refl;
 }
 
 pub leaves_fewer : (P Q : ℕ → Type 0) (a b : World) → ((slot : ℕ) → Q slot → P slot) → LeavesSlots P a b → LeavesSlots Q a b
 leaves_fewer P Q a b fewer h = record {
   others = weaker (AreStill P a.events) (AreStill Q a.events) a.events b.events (λ es still slot left. still slot (fewer slot left)) h.others;
-  names = h.names;
+  named = h.named;
+  held = λ name free. h.held name (λ slot e. fewer slot (free slot e));
   files = λ slot left. h.files slot (fewer slot left);
 }
 
@@ -38,7 +40,10 @@ leaves_twice P a b c f g = record {
   others = joins (AreStill P a.events) a.events b.events c.events f.others
       (weaker (AreStill P b.events) (AreStill P a.events) b.events c.events
       (λ es h slot left file out. at_end (AreStill P a.events) a.events b.events f.others slot left file (h slot left file out)) g.others);
-  names = λ slot. g.names slot ∙ f.names slot;
+  named = joins (KeepNames a.events) a.events b.events c.events f.named
+      (weaker (KeepNames b.events) (KeepNames a.events) b.events c.events (λ es same slot. same slot ∙ at_end (KeepNames a.events) a.events b.events f.named slot) g.named);
+  held = λ name free.
+      g.held name (λ slot e. free slot (sym (at_end (KeepNames a.events) a.events b.events f.named slot) ∙ e)) ∙ f.held name free;
   files = λ slot left. g.files slot left ∙ f.files slot left;
 }
 
@@ -46,15 +51,17 @@ pub leaves_puts : (P : ℕ → Type 0) (text : List ℕ) (a b : World) → PutsF
 leaves_puts P text a b front = record {
   others = at_puts (AreStill P a.events) (take front.count text) a b front.put
       (λ ps more is slot left file out. outcome_at_puts ps a.events slot file out);
-  names = λ slot. ap (λ (es : List Event). name_of es slot) front.put.events ∙ name_at_puts front.put.pieces a.events slot;
+  named = at_puts (KeepNames a.events) (take front.count text) a b front.put (λ ps more is slot. name_at_puts ps a.events slot);
+  held = λ name free. ap (λ (files : List ℕ → Option (List ℕ)). files name) front.put.files;
   files = λ slot left. ap (λ (es : List Event). file_now es slot) front.put.events ∙ file_at_puts front.put.pieces a.events slot;
 }
 
 -- where nothing happened
-pub leaves_silent : (P : ℕ → Type 0) (a b : World) → b.events ≡ a.events → LeavesSlots P a b
-leaves_silent P a b same = record {
+pub leaves_silent : (P : ℕ → Type 0) (a b : World) → b.files ≡ a.files → b.events ≡ a.events → LeavesSlots P a b
+leaves_silent P a b files same = record {
   others = subst (λ (es : List Event). AtEach a.events es (AreStill P a.events)) (sym same) (at_once (AreStill P a.events) a.events (λ slot left file h. h));
-  names = λ slot. ap (λ (es : List Event). name_of es slot) same;
+  named = subst (λ (es : List Event). AtEach a.events es (KeepNames a.events)) (sym same) (at_once (KeepNames a.events) a.events (λ slot. refl));
+  held = λ name free. ap (λ (f : List ℕ → Option (List ℕ)). f name) files;
   files = λ slot left. ap (λ (es : List Event). file_now es slot) same;
 }
 
@@ -75,7 +82,7 @@ pub spares_and_puts : (P Q : ℕ → Type 0) (text : List ℕ) (a b c : Seen) �
 spares_and_puts P Q text a b c tells f put = spares_twice P Q Q a b c tells f (spares_puts Q text b c put)
 
 pub spares_takes : (P : ℕ → Type 0) (a b : Seen) → (Tells a → OnlyTakes a.world b.world) → Spares P P a b
-spares_takes P a b only = record { again = λ slot left. left; leaves = λ told. leaves_silent P a.world b.world (only told).events }
+spares_takes P a b only = record { again = λ slot left. left; leaves = λ told. leaves_silent P a.world b.world (only told).files (only told).events }
 
 -- ---- by the calls of a stack
 
@@ -99,7 +106,7 @@ reads_spare old new before after caches kept = record {
     apart = λ at. lower.apart (ap (λ (n : ℕ). n - 1) (sym (caches_length old.layers new.layers caches)) ∙ at);
     calm = calm_cached old.layers new.layers slot caches lower.calm;
   };
-  leaves = λ told. leaves_silent (IsLower old) before.world after.world (ap (λ (w : World). w.events) (kept told));
+  leaves = λ told. leaves_silent (IsLower old) before.world after.world (ap (λ (w : World). w.files) (kept told)) (ap (λ (w : World). w.events) (kept told));
 }
 
 -- a call that changes the last layer
@@ -129,7 +136,8 @@ module _ (R : LayerState → LayerState → Type 0) (slots : (s next : LayerStat
 leaves_by : (P : ℕ → Type 0) (at : ℕ) (a b : World) → ((slot : ℕ) → P slot → at ≡ slot → ⊥) → SparesOthers at a b → LeavesSlots P a b
 leaves_by P at a b apart h = record {
   others = weaker (OthersStill at a.events) (AreStill P a.events) a.events b.events (λ es still slot left. still slot (apart slot left)) h.others;
-  names = h.names;
+  named = h.named;
+  held = λ name free. h.held name (λ e. apart at (free at e) refl);
   files = λ slot left. h.files slot (apart slot left);
 }
 
@@ -163,7 +171,8 @@ closes_spare old new before after files calm others = record {
       record {
         others = weaker (AreStill (HasNoChange old.layers) before.world.events) (AreStill (IsLower old) before.world.events) before.world.events after.world.events
             (λ es still slot lower. still slot lower.calm) h.others;
-        names = h.names;
+        named = h.named;
+        held = λ name free. h.held name (λ slot e. (free slot e).calm);
         files = λ slot lower. h.files slot lower.calm;
       };
 }

@@ -1,14 +1,16 @@
 -- What other slots keep: one event more of each kind, calls at Ok and at a failure at once, and several in a row.
-use Rattle.std.proofs.Common.{◌≡◌, ℕ, cond, List, ◌∷◌, take, Result, Ok, Err, OnOk, OnErr, refl, sym, ◌∙◌, subst, inl, inr}
+use Rattle.std.proofs.Common.{◌≡◌, ℕ, cond, List, ◌∷◌, take, Option, Some, None, Result, Ok, Err, OnOk, OnErr, refl, sym, ◌∙◌, ap, subst, inl, inr}
+use Rattle.std.specs.Option.{option_map}
+use Rattle.std.specs.Str.{bytes_eq}
 use Rattle.std.proofs.lemmas.Bool.{cond-false}
 use Rattle.cckd_shelf.specs.declared.fault.Failed.{Failed}
 use Rattle.cckd_shelf.specs.Files.{overlaid}
-use Rattle.cckd_shelf.specs.Events.{Event, Written, Torn, Cut, HalfCut, Synced, Put, goes_by, is_about, file_now}
-use Rattle.cckd_shelf.specs.World.{World, after_write, after_torn, after_cut, after_half_cut, after_sync}
+use Rattle.cckd_shelf.specs.Events.{Event, Written, Torn, Cut, HalfCut, Synced, Put, name_of, goes_by, is_about, file_now}
+use Rattle.cckd_shelf.specs.World.{World, file_of, with_file, with_present, after_write, after_torn, after_cut, after_half_cut, after_sync}
 use Rattle.cckd_shelf.specs.Seen.{Seen, Tells, Stays, Makes, MayMake}
 use Rattle.cckd_shelf.specs.Outcomes.{IsOutcome, EachOutcome, OthersStill, AtEach}
-use Rattle.cckd_shelf.specs.Frame.{SparesOthers, OnlyIn}
-use Rattle.cckd_shelf.proofs.NameLemmas.{about_other}
+use Rattle.cckd_shelf.specs.Frame.{KeepNames, SparesOthers, OnlyIn}
+use Rattle.cckd_shelf.proofs.NameLemmas.{about_other, texts_differ}
 use Rattle.cckd_shelf.proofs.OutcomeLemmas.{sync_step, other_write_step, other_torn_step, other_cut_step, other_half_cut_step}
 use Rattle.cckd_shelf.proofs.MomentLemmas.{at_once, at_end, joins, weaker, next_at}
 
@@ -61,11 +63,27 @@ others_keep P slot other old new apart still each =
 pub spares_nothing : (slot : ℕ) (w : World) → SparesOthers slot w w
 spares_nothing slot w = record {
   others = at_once (OthersStill slot w.events) w.events (still_same slot w.events);
+  named = at_once (KeepNames w.events) w.events (λ other. refl);
   names = λ other. refl;
+  held = λ name apart. refl;
   files = λ other apart. refl;
   script = refl;
   output = refl;
 }
+
+-- one event more that is no bind
+named_still : (w new : World) (e : Event) → new.events ≡ e ∷ w.events → KeepNames w.events (e ∷ w.events) → AtEach w.events new.events (KeepNames w.events)
+named_still w new e grown still = next_at (KeepNames w.events) w new e grown (λ other. refl) still
+
+-- the file of another name, where one is written or cut
+written_other : (files : List ℕ → Option (List ℕ)) (own : Option (List ℕ)) (bytes name : List ℕ) → (own ≡ Some name → ⊥) → with_file files own bytes name ≡ files name
+written_other files None bytes name apart = refl
+written_other files (Some own) bytes name apart = cond-false (bytes_eq own name) (Some bytes) (files name) (texts_differ own name (λ e. apart (ap Some e)))
+
+cut_other : (files : List ℕ → Option (List ℕ)) (own : Option (List ℕ)) (bytes name : List ℕ) → (own ≡ Some name → ⊥) → with_present files own bytes name ≡ files name
+cut_other files None bytes name apart = refl
+cut_other files (Some own) bytes name apart =
+    cond-false (bytes_eq own name) (option_map (λ _. bytes) (files name)) (files name) (texts_differ own name (λ e. apart (ap Some e)))
 
 spares_by : (slot : ℕ) (w new : World) (e : Event) → new.events ≡ e ∷ w.events → OthersStill slot w.events (e ∷ w.events)
     → AtEach w.events new.events (OthersStill slot w.events)
@@ -78,7 +96,9 @@ file_beside f es slot other apart = cond-false (is_about es slot (goes_by es oth
 pub spares_write : (slot position : ℕ) (bytes : List ℕ) (w : World) → SparesOthers slot w (after_write slot position bytes w)
 spares_write slot position bytes w = record {
   others = spares_by slot w (after_write slot position bytes w) (Written slot position bytes) refl (still_written slot position bytes w.events);
+  named = named_still w (after_write slot position bytes w) (Written slot position bytes) refl (λ other. refl);
   names = λ other. refl;
+  held = λ name apart. written_other w.files (name_of w.events slot) (overlaid (file_of w slot) position bytes) name apart;
   files = λ other apart. file_beside (λ f. overlaid f position bytes) w.events slot other apart;
   script = refl;
   output = refl;
@@ -87,7 +107,9 @@ spares_write slot position bytes w = record {
 pub spares_torn : (slot position : ℕ) (bytes : List ℕ) (w : World) → SparesOthers slot w (after_torn slot position bytes w)
 spares_torn slot position bytes w = record {
   others = spares_by slot w (after_torn slot position bytes w) (Torn slot position bytes) refl (still_torn slot position bytes w.events);
+  named = named_still w (after_torn slot position bytes w) (Torn slot position bytes) refl (λ other. refl);
   names = λ other. refl;
+  held = λ name apart. written_other w.files (name_of w.events slot) (overlaid (file_of w slot) position bytes) name apart;
   files = λ other apart. file_beside (λ f. overlaid f position bytes) w.events slot other apart;
   script = refl;
   output = refl;
@@ -96,7 +118,9 @@ spares_torn slot position bytes w = record {
 pub spares_cut : (slot len : ℕ) (w : World) → SparesOthers slot w (after_cut slot len w)
 spares_cut slot len w = record {
   others = spares_by slot w (after_cut slot len w) (Cut slot len) refl (still_cut slot len w.events);
+  named = named_still w (after_cut slot len w) (Cut slot len) refl (λ other. refl);
   names = λ other. refl;
+  held = λ name apart. cut_other w.files (name_of w.events slot) (take len (file_of w slot)) name apart;
   files = λ other apart. file_beside (take len) w.events slot other apart;
   script = refl;
   output = refl;
@@ -105,7 +129,9 @@ spares_cut slot len w = record {
 pub spares_half_cut : (slot len : ℕ) (w : World) → SparesOthers slot w (after_half_cut slot len w)
 spares_half_cut slot len w = record {
   others = spares_by slot w (after_half_cut slot len w) (HalfCut slot len) refl (still_half_cut slot len w.events);
+  named = named_still w (after_half_cut slot len w) (HalfCut slot len) refl (λ other. refl);
   names = λ other. refl;
+  held = λ name apart. cut_other w.files (name_of w.events slot) (take len (file_of w slot)) name apart;
   files = λ other apart. file_beside (take len) w.events slot other apart;
   script = refl;
   output = refl;
@@ -114,7 +140,9 @@ spares_half_cut slot len w = record {
 pub spares_sync : (slot s : ℕ) (w : World) → SparesOthers slot w (after_sync s w)
 spares_sync slot s w = record {
   others = spares_by slot w (after_sync s w) (Synced s) refl (still_synced slot s w.events);
+  named = named_still w (after_sync s w) (Synced s) refl (λ other. refl);
   names = λ other. refl;
+  held = λ name apart. refl;
   files = λ other apart. refl;
   script = refl;
   output = refl;
@@ -124,7 +152,10 @@ spares_sync slot s w = record {
 pub spares_twice : (slot : ℕ) (a b c : World) → SparesOthers slot a b → SparesOthers slot b c → SparesOthers slot a c
 spares_twice slot a b c f g = record {
   others = still_joins slot a.events b.events c.events f.others g.others;
+  named = joins (KeepNames a.events) a.events b.events c.events f.named
+      (weaker (KeepNames b.events) (KeepNames a.events) b.events c.events (λ es same other. same other ∙ f.names other) g.named);
   names = λ other. g.names other ∙ f.names other;
+  held = λ name apart. g.held name (λ e. apart (sym (f.names slot) ∙ e)) ∙ f.held name apart;
   files = λ other apart. g.files other apart ∙ f.files other apart;
   script = g.script ∙ f.script;
   output = g.output ∙ f.output;

@@ -1,15 +1,21 @@
 -- What a call leaves as it is that works on one slot, or that only puts.
-use Rattle.std.specs.Prelude.{ℕ, ◌≡◌, ◌≤◌, List, [], ◌∷◌, ◌++◌, length, take}
+use Rattle.std.specs.Prelude.{ℕ, ◌≡◌, ◌≤◌, List, [], ◌∷◌, ◌++◌, length, take, Some}
 use Rattle.cckd_shelf.specs.Events.{Event, Put, name_of, output_of}
 use Rattle.cckd_shelf.specs.World.{World, file_of}
 use Rattle.cckd_shelf.specs.Seen.{Seen, Tells}
 use Rattle.cckd_shelf.specs.Outcomes.{OthersStill, AtEach}
 
--- Nothing is done but to this slot's file: at each operation every outcome of another slot was one before. Each slot
--- keeps its name, and each other one its file; nothing is taken and nothing is put.
+-- each slot has the name that it had
+abbrev pub KeepNames : List Event → List Event → Type 0
+KeepNames old new = (slot : ℕ) → name_of new slot ≡ name_of old slot
+
+-- Nothing is done but to this slot's file: at each operation every outcome of another slot was one before, and each slot has its
+-- name. Each other one keeps its file, and each other name what it holds, if it holds anything; nothing is taken and nothing is put.
 pub record SparesOthers (slot : ℕ) (old new : World) : Type 0 where
   pub others : AtEach old.events new.events (OthersStill slot old.events)
-  pub names : (other : ℕ) → name_of new.events other ≡ name_of old.events other
+  pub named : AtEach old.events new.events (KeepNames old.events)
+  pub names : KeepNames old.events new.events
+  pub held : (name : List ℕ) → (name_of old.events slot ≡ Some name → ⊥) → new.files name ≡ old.files name
   pub files : (other : ℕ) → (slot ≡ other → ⊥) → file_of new other ≡ file_of old other
   pub script : new.script ≡ old.script
   pub output : output_of new.events ≡ output_of old.events

@@ -10,7 +10,7 @@ use Rattle.cckd_shelf.specs.Events.{Event}
 use Rattle.cckd_shelf.specs.Seen.{Seen, Tells}
 use Rattle.cckd_shelf.specs.World.{World, file_of}
 use Rattle.cckd_shelf.specs.Outcomes.{IsOutcome, EachOutcome, OthersStill}
-use Rattle.cckd_shelf.specs.Frame.{SparesOthers, OnlyIn}
+use Rattle.cckd_shelf.specs.Frame.{KeepNames, SparesOthers, OnlyIn}
 use Rattle.cckd_shelf.proofs.MomentLemmas.{at_once, at_end, joins, weaker}
 use Rattle.cckd_shelf.proofs.FrameLemmas.{other_keeps}
 use Rattle.cckd_layer.specs.Closed.{IsClosed}
@@ -67,7 +67,9 @@ layers_drop g slot (suc n) at (s ∷ ss) e are = layers_drop g (suc slot) n at s
 spares_none : (layers : List LayerState) (w : World) → SparesUnchanged layers w w
 spares_none layers w = record {
   others = at_once (λ es. (slot : ℕ) → HasNoChange layers slot → EachOutcome slot (IsOutcome w.events slot) es) w.events (λ slot calm file h. h);
+  named = at_once (KeepNames w.events) w.events (λ slot. refl);
   names = λ slot. refl;
+  held = λ name free. refl;
   files = λ slot calm. refl;
   script = refl;
   output = refl;
@@ -79,7 +81,10 @@ spares_joins layers a b c f g =
     record {
       others = joins (still a) a.events b.events c.events f.others
           (weaker (still b) (still a) b.events c.events (λ es h slot calm file left. at_end (still a) a.events b.events f.others slot calm file (h slot calm file left)) g.others);
+      named = joins (KeepNames a.events) a.events b.events c.events f.named
+          (weaker (KeepNames b.events) (KeepNames a.events) b.events c.events (λ es same slot. same slot ∙ f.names slot) g.named);
       names = λ slot. g.names slot ∙ f.names slot;
+      held = λ name free. g.held name (λ slot e. free slot (sym (f.names slot) ∙ e)) ∙ f.held name free;
       files = λ slot calm. g.files slot calm ∙ f.files slot calm;
       script = g.script ∙ f.script;
       output = g.output ∙ f.output;
@@ -89,7 +94,9 @@ spares_by : (layers : List LayerState) (at : ℕ) (a b : World) → ((slot : ℕ
 spares_by layers at a b apart h = record {
   others = weaker (OthersStill at a.events) (λ es. (slot : ℕ) → HasNoChange layers slot → EachOutcome slot (IsOutcome a.events slot) es) a.events b.events
       (λ es still slot calm. still slot (apart slot calm)) h.others;
+  named = h.named;
   names = h.names;
+  held = λ name free. h.held name (λ e. apart at (free at e) refl);
   files = λ slot calm. h.files slot (apart slot calm);
   script = h.script;
   output = h.output;

@@ -1,5 +1,5 @@
 -- What a call that writes makes of a stack, and what a stop leaves of it.
-use Rattle.std.specs.Prelude.{ℕ, suc, ◌≡◌, ◌≤◌, Bool, true, false, List, [], ◌∷◌, ◌++◌, Option, Result, Ok, Err}
+use Rattle.std.specs.Prelude.{ℕ, suc, ◌≡◌, ◌≤◌, Bool, true, false, List, [], ◌∷◌, ◌++◌, Option, Some, Result, Ok, Err}
 use Rattle.std.specs.List.{AllByRecursion}
 use Rattle.cckd_base.specs.declared.geometry.Geometry.{Geometry}
 use Rattle.cckd_base.specs.declared.call.Call.{Call}
@@ -19,6 +19,7 @@ use Rattle.cckd_shelf.specs.Seen.{Seen, Tells}
 use Rattle.cckd_shelf.specs.World.{World, file_of}
 use Rattle.cckd_shelf.specs.Events.{name_of, output_of}
 use Rattle.cckd_shelf.specs.Outcomes.{IsOutcome, EachOutcome, AtEach}
+use Rattle.cckd_shelf.specs.Frame.{KeepNames}
 use Rattle.cckd_base.specs.Geometry.{track_count}
 use Rattle.cckd_layer.specs.Held.{NullBytes, AreSame}
 use Rattle.cckd_layer.specs.Mounted.{LayerState}
@@ -141,11 +142,13 @@ AreUnchanged layers = AllByRecursion IsUnchanged layers
 abbrev pub HasNoChange : List LayerState → ℕ → Type 0
 HasNoChange layers slot = AllByRecursion (λ s. s.slot ≡ slot → IsUnchanged s) layers
 
--- Nothing is done but to the files of layers that were changed: at each operation every outcome of another slot was one before.
--- Each slot keeps its name, and each other one its file; nothing is taken and nothing is put.
+-- Nothing is done but to the files of layers that were changed: at each operation every outcome of another slot was one before, and
+-- each slot has its name. Each other one keeps its file, and each other name what it holds; nothing is taken and nothing is put.
 pub record SparesUnchanged (layers : List LayerState) (old new : World) : Type 0 where
   pub others : AtEach old.events new.events (λ es. (slot : ℕ) → HasNoChange layers slot → EachOutcome slot (IsOutcome old.events slot) es)
-  pub names : (slot : ℕ) → name_of new.events slot ≡ name_of old.events slot
+  pub named : AtEach old.events new.events (KeepNames old.events)
+  pub names : KeepNames old.events new.events
+  pub held : (name : List ℕ) → ((slot : ℕ) → name_of old.events slot ≡ Some name → HasNoChange layers slot) → new.files name ≡ old.files name
   pub files : (slot : ℕ) → HasNoChange layers slot → file_of new slot ≡ file_of old slot
   pub script : new.script ≡ old.script
   pub output : output_of new.events ≡ output_of old.events

@@ -3,6 +3,7 @@ use Rattle.std.proofs.Common.{◌≡◌, ⊎_elim, ℕ, zero, suc, ◌∷◌, �
 use Rattle.cckd_base.specs.declared.geometry.Geometry.{Geometry}
 use Rattle.cckd_base.specs.Header.{is_present}
 use Rattle.cckd_shelf.specs.Events.{Event, Name, Synced, name_of, named_by, output_of}
+use Rattle.cckd_shelf.specs.Frame.{KeepNames}
 use Rattle.cckd_shelf.specs.Outcomes.{MayBeLeft, EachOutcome, AtEach}
 use Rattle.cckd_shelf.specs.World.{World, IsSure, IsTied, file_of}
 use Rattle.cckd_shelf.proofs.MomentLemmas.{at_once, at_end, at_next, weaker}
@@ -74,12 +75,26 @@ mounted_holds name n old bound mid done tied synced =
       files = λ slot low. syncs_files n bound slot ∙ bound_holds name old bound done tied slot low;
     })
 
--- where only other slots were changed since, the files are as they were
-pub lower_hold : (name : List ℕ) (last : ℕ) (old mid new : World) → HoldsFiles name old mid → IsTied new → LeavesSlots (λ slot. last ≡ slot → ⊥) mid new
-    → AreNamed new name 9 × ((slot : ℕ) → slot ≤ 8 → (last ≡ slot → ⊥) → files_of name new slot ≡ files_of name old slot)
-lower_hold name last old mid new holds tied leaves =
-    let names : AreNamed new name 9 = λ slot less. leaves.names slot ∙ holds.names slot less in
-    (names, λ slot low apart. tied_slot new slot (slot_name name slot) tied (names slot (omega (arith, low))) ∙ (leaves.files slot apart ∙ holds.files slot low))
+-- where only the last slot is changed since, each has its name at each moment, and each other name what it held
+module _ (name : List ℕ) (count : ℕ) (old mid new : World) (few : (1 ≤ count) × (count ≤ 9)) (holds : HoldsFiles name old mid)
+    (leaves : LeavesSlots (λ slot. count - 1 ≡ slot → ⊥) mid new)
+  where
+    pub lower_names : AtEach mid.events new.events (λ es. (slot : ℕ) → slot ≤ 8 → name_of es slot ≡ Some (slot_name name slot))
+    lower_names =
+        weaker (KeepNames mid.events) (λ es. (slot : ℕ) → slot ≤ 8 → name_of es slot ≡ Some (slot_name name slot)) mid.events new.events
+        (λ es same slot low. same slot ∙ holds.names slot (omega (arith, low))) leaves.named
+
+    pub lower_files : mid.files ≡ old.files → (other : List ℕ) → (slot_name name (count - 1) ≡ other → ⊥) → new.files other ≡ old.files other
+    lower_files same other apart = leaves.held other free ∙ ap (λ (files : List ℕ → Option (List ℕ)). files other) same
+      where
+        free : (slot : ℕ) → name_of mid.events slot ≡ Some other → count - 1 ≡ slot → ⊥
+        free slot has at =
+            let last : name_of mid.events (count - 1) ≡ Some (slot_name name (count - 1)) = holds.names (count - 1) (omega (arith, few.0, few.1)) in
+            let here : name_of mid.events slot ≡ Some (slot_name name (count - 1)) =
+            subst (λ (k : ℕ). name_of mid.events k ≡ Some (slot_name name (count - 1))) at last in
+            let both : Some (slot_name name (count - 1)) ≡ Some other = sym here ∙ has in
+            let own : slot_name name (count - 1) ≡ other = cc in
+            apart own
 
 -- a slot that was synced holds what it held, whatever a stop leaves
 syncs_settle : (n k : ℕ) (w : World) → IsSure w → k < n → EachOutcome k (λ file. file ≡ file_of w k) (after_syncs n w).events

@@ -1,15 +1,15 @@
 -- A run, from its parts.
-use Rattle.std.proofs.Common.{◌≡◌, ◌-◌, ℕ, List, [], ◌++◌, take, Ok, Err, refl, sym, ◌∙◌, ap, subst, append-nil}
+use Rattle.std.proofs.Common.{◌≡◌, ◌-◌, ℕ, List, [], ◌++◌, take, Some, ◌≤◌, Ok, Err, refl, sym, ◌∙◌, ap, subst, append-nil}
 use Rattle.cckd_base.specs.declared.open_fault.OpenFault.{OpenFault}
 use Rattle.cckd_base.specs.declared.open_fault.OpenFault.TheVariants as open_fault
 use Rattle.cckd_shelf.specs.declared.fault.Faults.{Faults}
 use Rattle.cckd_shelf.specs.declared.shows.Shows.{Ghosts as Showing}
 use Rattle.cckd_shelf.specs.declared.fault.Kind.TheVariants.{Reads, Syncs, Puts}
-use Rattle.cckd_shelf.specs.Events.{output_of}
+use Rattle.cckd_shelf.specs.Events.{name_of, output_of}
 use Rattle.cckd_shelf.specs.Frame.{puts, PutsSome}
 use Rattle.cckd_shelf.specs.Outcomes.{OthersStill, AtEach}
 use Rattle.cckd_shelf.specs.Seen.{Seen, seen, Tells}
-use Rattle.cckd_shelf.specs.World.{World, IsTied}
+use Rattle.cckd_shelf.specs.World.{World}
 use Rattle.cckd_script.specs.Text.{line}
 use Rattle.cckd_engine.specs.declared.engine.Engine.{Engine}
 use Rattle.cckd_engine.specs.declared.disk.Disk.{Ghosts as Making}
@@ -24,7 +24,7 @@ use Rattle.cckd_console.specs.Saying.{Account, account_of, SaysAll, SaysCut, Are
 use Rattle.cckd_top.specs.declared.halt.Halt.TheVariants as halt
 use Rattle.cckd_top.specs.Ended.{EndsScript}
 use Rattle.cckd_top.specs.Explained.{IsExplained, ExplainsDisk, words_are_bad, files_dont_open, disk_is_served, refused, opened}
-use Rattle.cckd_top.specs.Names.{after_binds}
+use Rattle.cckd_top.specs.Names.{slot_name, after_binds}
 use Rattle.cckd_top.specs.Opening.{OpensDisk, FailsToOpen, CountsOpening}
 use Rattle.cckd_top.specs.Run.{Way, closed, unscripted, cut, halted, served, source_account, open_fault_told, script_limit, IsTaken, HasPutLines, lines_of}
 use Rattle.cckd_top.specs.Text.{open_fault_text, open_fault_status, halt_text, halt_status}
@@ -32,7 +32,7 @@ use Rattle.cckd_top.specs.Words.{Named, named_disk}
 use Rattle.cckd_top.specs.World.{StayIntact, OnlyMounts, after_mounting}
 use Rattle.cckd_engine.specs.Frame.{LeavesSlots}
 use Rattle.cckd_engine.proofs.FrameLemmas.{leaves_fewer}
-use Rattle.cckd_top.proofs.BoundLemmas.{lower_hold, lower_stay}
+use Rattle.cckd_top.proofs.BoundLemmas.{lower_names, lower_files, lower_stay}
 use Rattle.cckd_top.proofs.HardenedLemmas.{last_opens}
 use Rattle.cckd_top.proofs.SayingLemmas.{said_behind}
 use Rattle.cckd_top.proofs.WorldLemmas.{KeepsAll, intact_twice, puts_intact, mounting_keeps, binds_keep}
@@ -164,10 +164,9 @@ module _ (a b c : Seen) (tells : Tells a → Tells b) (silent : Tells a → outp
 
 -- a run whose files open
 pub disk_served : {S D : Type 0} (shows : Showing S) (makes : Making D) (start end : S) (engine : Engine S D) (name : List ℕ) (status : ℕ)
-    → (Tells (seen shows start) → IsTied (shows.world end))
     → OpensDisk shows makes name start engine → EndsScript shows makes script_limit engine end status
     → ExplainsDisk name (seen shows start) (seen shows end) status
-disk_served shows makes start end engine name status tied opens ends =
+disk_served shows makes start end engine name status opens ends =
     let old = shows.world start in
     let mid = shows.world engine.stage in
     let g = makes.geometry engine.disk in
@@ -209,15 +208,15 @@ disk_served shows makes start end engine name status tied opens ends =
               let higher = λ (slot : ℕ). done.count - 1 ≡ slot → ⊥ in
               let leaves : LeavesSlots higher mid (shows.world end) =
               leaves_fewer (makes.spares engine.disk) higher mid (shows.world end) (opens.spares told) (ends.spares told) in
-              let hold = lower_hold name (done.count - 1) old mid (shows.world end) (opens.holds told) (tied told) leaves in
               record {
                 count = done.count;
                 few = done.few;
                 row = done.row;
                 others = subst (λ (w : World). AtEach w.events (shows.world end).events (OthersStill (done.count - 1) w.events)) done.done leaves.others;
                 stay = lower_stay name done.count old mid (shows.world end) done.done done.few.1 (opens.holds told) leaves;
-                names = hold.0;
-                files = hold.1;
+                names = subst (λ (w : World). AtEach w.events (shows.world end).events (λ es. (slot : ℕ) → slot ≤ 8 → name_of es slot ≡ Some (slot_name name slot)))
+                    done.done (lower_names name done.count old mid (shows.world end) done.few (opens.holds told) leaves);
+                files = lower_files name done.count old mid (shows.world end) done.few (opens.holds told) leaves (mid_keeps told).files;
               };
           quiet = λ told reads.
               let done = opens.done told in

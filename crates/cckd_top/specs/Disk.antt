@@ -1,7 +1,7 @@
 -- What a run promises of the disk that it serves.
-use Rattle.std.specs.Prelude.{◌≡◌, ◌<◌, ◌≤◌, ◌-◌, ◌++◌, ℕ, true, List, [], ◌∷◌, None}
+use Rattle.std.specs.Prelude.{◌≡◌, ◌<◌, ◌≤◌, ◌-◌, ◌++◌, ℕ, true, List, [], ◌∷◌, Some, None}
 use Rattle.cckd_base.specs.declared.geometry.Geometry.{Geometry}
-use Rattle.cckd_shelf.specs.Events.{Event, output_of, file_now}
+use Rattle.cckd_shelf.specs.Events.{Event, name_of, output_of, file_now}
 use Rattle.cckd_shelf.specs.Seen.{Seen, Tells}
 use Rattle.cckd_shelf.specs.World.{World, IsSure}
 use Rattle.cckd_shelf.specs.Outcomes.{EachOutcome, OthersStill, AtEach}
@@ -14,7 +14,7 @@ use Rattle.cckd_stack.specs.Mounting.{IsRow}
 use Rattle.cckd_stack.specs.Called.{AreSnug}
 use Rattle.cckd_engine.specs.Lines.{Line, LinesAt, history_onto}
 use Rattle.cckd_console.specs.Served.{Served, AreAlone, OnlyRead}
-use Rattle.cckd_top.specs.Names.{files_of, after_binds, AreNamed}
+use Rattle.cckd_top.specs.Names.{slot_name, files_of, after_binds}
 use Rattle.cckd_top.specs.World.{TellsFiles, NothingIsOpen, OnlyMounts, after_mounting}
 use Rattle.cckd_top.specs.Run.{Way, lines_of, history_of}
 
@@ -56,8 +56,8 @@ pub record KeepsDisk (name : List ℕ) (g : Geometry) (s0 : Stack) (lines : List
 
 -- The nine slots got their files, one after another, and each that is there was synced, the base first. All else comes behind that,
 -- and from then on nothing is done but to the file of the last of these: at each operation whatever a stop leaves of another slot's
--- file it could leave before; of those below the last one it is what they held at the start. At the end each slot has its name, and
--- the other ones hold what they held.
+-- file it could leave before; of those below the last one it is what they held at the start; and each slot has its name. At the end
+-- each other name holds what it held, if it held anything: no file is made.
 pub record SparesLower (name : List ℕ) (old new : World) : Type 0 where
   pub count : ℕ
   pub few : (1 ≤ count) × (count ≤ 9)
@@ -65,8 +65,8 @@ pub record SparesLower (name : List ℕ) (old new : World) : Type 0 where
   pub others : AtEach (after_mounting name 9 count old).events new.events (OthersStill (count - 1) (after_mounting name 9 count old).events)
   pub stay : IsSure old → (slot : ℕ) → slot < count - 1
       → AtEach (after_mounting name 9 count old).events new.events (EachOutcome slot (λ file. file ≡ files_of name old slot))
-  pub names : AreNamed new name 9
-  pub files : (slot : ℕ) → slot ≤ 8 → (count - 1 ≡ slot → ⊥) → files_of name new slot ≡ files_of name old slot
+  pub names : AtEach (after_mounting name 9 count old).events new.events (λ es. (slot : ℕ) → slot ≤ 8 → name_of es slot ≡ Some (slot_name name slot))
+  pub files : (other : List ℕ) → (slot_name name (count - 1) ≡ other → ⊥) → new.files other ≡ old.files other
 
 -- the files of a disk open to this stack, as they are told at the start
 pub record OpensAt (name : List ℕ) (g : Geometry) (s0 : Stack) (s : Seen) : Type 0 where

@@ -13,7 +13,7 @@ serve_to_end-requires-clause-heard g c = c.in-Ok.ensures.heard
 pub returns-in-Ok : goal.returns-in-Ok
 returns-in-Ok g c =
     disk_served g.T.Shows _ c.args.stage c.serve_to_end.result.0 c.in-Ok.engine c.args.file.now c.serve_to_end.result.1
-    (λ told. g.T.Shows.tied c.serve_to_end.result.0 told) c.in-Ok.ensures c.serve_to_end.ensures
+    c.in-Ok.ensures c.serve_to_end.ensures
 
 pub returns-in-Err : goal.returns-in-Err
 returns-in-Err g c =
