@@ -133,7 +133,7 @@ in_fields h heads cylinders size sequence eh ec es eq a b c d e p q r s u =
     one_field (is_outside 37 65024 h.dev.track_size) (BadGeometry TrackSize h.dev.track_size) _)))
 
 -- the fields say the same fault as the bytes
-fault_of_bytes : (headers : List ℕ) (identifiers : List (List ℕ)) (len : ℕ)
+pub fault_of_bytes : (headers : List ℕ) (identifiers : List (List ℕ)) (len : ℕ)
     → fault_of (header_of headers) identifiers len ≡ header_fault identifiers headers len
 unfolding fault_of header_fault
 fault_of_bytes headers identifiers len = refl

@@ -1,3 +1,4 @@
 mod BackLemmas
 mod FaultLemmas
+mod FreshLemmas
 mod PartLemmas

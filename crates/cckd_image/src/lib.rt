@@ -3,6 +3,7 @@
 
 mod encode;
 mod fault;
+mod fresh;
 mod header;
 mod layout;
 mod read;

@@ -1,5 +1,5 @@
 use super::*;
-use cckd_base::{CountField, GeoField, HeaderFault, Order};
+use cckd_base::{CountField, GeoField, Geometry, HeaderFault, Layout, Order};
 
 /// The headers of a closed base of a 2311 without a table, in the byte order of its own numbers.
 fn headers(big: bool) -> [u8; 1024] {
@@ -156,5 +156,30 @@ fn an_identifier_has_its_roles(rt: HostRuntime) {
             accepted,
             "{letter} {roles:?}"
         );
+    }
+}
+
+#[test]
+fn new_headers_are_those_of_a_closed_base(rt: HostRuntime) {
+    let l = Layout {
+        order: Order::Big,
+        geo: Geometry {
+            devtype: 0x11,
+            heads: 10,
+            cyls: 200,
+            track_size: 4_096,
+        },
+        groups: 8,
+        shadow: true,
+        null_fmt: 0,
+    };
+    let base = ImageHeader::fresh(&l, Roles::Base).encode();
+    let same = base == headers(false);
+    assert_eq!(rt; same, true);
+    let mut shadow = headers(false);
+    shadow[4] = b'S';
+    for roles in [Roles::Shadow, Roles::Either] {
+        let same = ImageHeader::fresh(&l, roles).encode() == shadow;
+        assert_eq!(rt; same, true, "{roles:?}");
     }
 }
