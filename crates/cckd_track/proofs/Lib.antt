@@ -1,3 +1,4 @@
 pub mod AnswerLemmas
+pub mod BuilderLemmas
 pub mod NullLemmas
 pub mod StopLemmas

@@ -1,8 +1,8 @@
-ghost use Rattle.std.specs.Prelude.{◌≡◌, ◌<◌};
-ghost use Rattle.cckd_base.specs.Geometry.{track_count, IsGeometry, IsNullFormat};
+ghost use Rattle.std.specs.Prelude.{◌≡◌, ◌<◌, ◌≤◌, length};
+ghost use Rattle.cckd_base.specs.Geometry.{track_count, IsGeometry, IsLayout, IsNullFormat};
 
 use super::*;
-use cckd_base::{Geometry, Track, TrackFault};
+use cckd_base::{Geometry, Layout, Order, Track, TrackFault};
 use std::alloc::{AllocError, Global};
 use std::process::Abort;
 use std::test::Fail;
@@ -289,5 +289,57 @@ fn a_home_address_is_judged_by_itself(rt: HostRuntime) -> Result<(), Fail> {
     let mut bytes = [0xfc, 1, 2];
     Ckd::settle(bytes.as_mut_slice());
     assert_eq!(rt; bytes, [0, 1, 2]);
+    Ok(())
+}
+
+/// A device whose tracks have 64 bytes.
+fn short() -> Layout
+    ensures layout { IsLayout result }
+    ensures tracks { track_count result.geo ≡ 2000 }
+{
+    Layout {
+        order: Order::Little,
+        geo: Geometry {
+            devtype: 0x11,
+            heads: 10,
+            cyls: 200,
+            track_size: 64,
+        },
+        groups: 8,
+        shadow: false,
+        null_fmt: 0,
+    }
+}
+
+/// Builds a track of two records that fits to the byte, with a refusal between them and one behind them.
+fn build(rt: &impl Abort, out: &mut [u8]) -> usize
+    requires { 65536 ≤ length out.old }
+{
+    let body: &[u8] = &[7; 12];
+    let mut builder = Builder::new(&short(), Track(1_999), out);
+    let over = |len| Err(TrackFault::TooLong { len, max: 64 });
+    assert_eq!(rt; builder.add(1, b"KEY1", b"data"), Ok(()));
+    assert_eq!(rt; builder.add(2, b"", body), over(65));
+    assert_eq!(rt; builder.add(255, b"", &body[1..]), Ok(()));
+    assert_eq!(rt; builder.add(3, b"K", b""), over(73));
+    usize::from(builder.finish())
+}
+
+#[test]
+fn records_are_added_up_to_the_track_size(rt: HostRuntime) -> Result<(), Fail> {
+    let mut out = vec![in rt.alloc(); 0xee; 65_536]?;
+    let len = build(&rt, &mut out);
+    assert_eq!(rt; len, 64);
+    let track: [&[u8]; 6] = [
+        &[0, 0, 199, 0, 9],
+        &[0, 199, 0, 9, 0, 0, 0, 8, 0, 0, 0, 0, 0, 0, 0, 0],
+        b"\0\xc7\0\x09\x01\x04\0\x04KEY1data",
+        b"\0\xc7\0\x09\xff\0\0\x0b\x07\x07\x07\x07\x07\x07\x07\x07\x07\x07\x07",
+        END,
+        &[0xee, 0xee],
+    ];
+    let want = joined(rt.alloc(), &track)?;
+    let front = out.iter().take(66).eq(want.iter());
+    assert_eq!(rt; front, true);
     Ok(())
 }
