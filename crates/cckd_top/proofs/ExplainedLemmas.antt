@@ -1,5 +1,5 @@
 -- A run, from its parts.
-use Rattle.std.proofs.Common.{◌≡◌, ◌-◌, ℕ, List, [], ◌++◌, take, Some, ◌≤◌, Ok, Err, refl, sym, ◌∙◌, ap, subst, append-nil}
+use Rattle.std.proofs.Common.{◌≡◌, ◌-◌, ℕ, List, [], ◌++◌, Some, ◌≤◌, Ok, Err, refl, sym, ◌∙◌, ap, subst, append-nil}
 use Rattle.cckd_base.specs.declared.open_fault.OpenFault.{OpenFault}
 use Rattle.cckd_base.specs.declared.open_fault.OpenFault.TheVariants as open_fault
 use Rattle.cckd_shelf.specs.declared.fault.Faults.{Faults}

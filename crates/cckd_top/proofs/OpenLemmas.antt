@@ -1,6 +1,7 @@
 -- The files of a disk that are opened, from their parts.
-use Rattle.std.proofs.Common.{◌≡◌, ℕ, ◌≤◌, ◌-◌, false, List, [], Err, refl, sym, ◌∙◌, ap, subst, arith}
-use Rattle.cckd_base.specs.Header.{headers_of, layout_of, is_present}
+use Rattle.std.proofs.Common.{◌≡◌, ℕ, zero, suc, max, ◌≤◌, ◌-◌, false, List, [], Err, refl, sym, ◌∙◌, ap, subst, arith}
+use Rattle.cckd_base.specs.declared.geometry.Geometry.{Geometry}
+use Rattle.cckd_base.specs.Header.{headers_of, header_geometry, layout_of, is_present}
 use Rattle.cckd_base.specs.Image.{IsSnug}
 use Rattle.cckd_base.specs.declared.open_fault.OpenFault.{OpenFault}
 use Rattle.cckd_base.specs.declared.open_fault.OpenFault.TheVariants as open_fault
@@ -15,12 +16,13 @@ use Rattle.cckd_layer.specs.Mounted.{CountsOpen}
 use Rattle.cckd_stack.specs.Layers.{Stack}
 use Rattle.cckd_stack.specs.Called.{AreSnug}
 use Rattle.cckd_stack.specs.Opened.{Opens}
-use Rattle.cckd_stack.specs.Mounting.{IsRow, IsGap, IsRefused, IsMountCause, SyncsSome, after_syncs}
+use Rattle.cckd_stack.specs.Mounting.{IsRow, HasRow, IsGap, IsImageIn, IsFileCase, IsFirstCase, IsRefused, IsMountCause, SyncsSome, after_syncs, shape_of}
+use Rattle.cckd_stack.specs.Stacked.{OfFiles}
 use Rattle.cckd_engine.specs.declared.engine.Engine.{Engine}
 use Rattle.cckd_engine.specs.declared.disk.Disk.{Ghosts as Making}
 use Rattle.cckd_engine.specs.Engine.{standing, Stands, Runs, TellsStops}
 use Rattle.cckd_console.specs.Serving.{KeepsLines}
-use Rattle.cckd_top.specs.Disk.{with_files}
+use Rattle.cckd_top.specs.Disk.{OfNames, IsFilesCause}
 use Rattle.cckd_top.specs.Names.{files_of, after_binds, BindsSome}
 use Rattle.cckd_top.specs.Opening.{OpensDisk, CountsOpening, FailsToOpen}
 use Rattle.cckd_top.proofs.WorldLemmas.{binds_keep}
@@ -28,20 +30,66 @@ use Rattle.cckd_top.proofs.BoundLemmas.{mounted_holds, bound_holds, bound_sure, 
 
 -- ---- files that don't open
 
--- the same cause in the same world
-cause_by : (a b : Seen) (why : OpenFault) → (Tells b → Tells a) → (Tells b → a.world ≡ b.world) → IsMountCause a why → IsMountCause b why
-cause_by a b (open_fault.Gap slot) tells e cause = λ t sure.
-    subst (λ (w : World). IsGap (file_of w) slot) (e t) (cause (tells t) (subst IsSure (sym (e t)) sure))
-cause_by a b (open_fault.Header slot fault) tells e cause = λ t sure.
-    subst (λ (w : World). IsRefused (file_of w) (open_fault.Header slot fault)) (e t) (cause (tells t) (subst IsSure (sym (e t)) sure))
-cause_by a b (open_fault.Mismatch slot base found) tells e cause = λ t sure.
-    subst (λ (w : World). IsRefused (file_of w) (open_fault.Mismatch slot base found)) (e t) (cause (tells t) (subst IsSure (sym (e t)) sure))
-cause_by a b (open_fault.Scan slot fault) tells e cause = λ t sure.
-    subst (λ (w : World). IsRefused (file_of w) (open_fault.Scan slot fault)) (e t) (cause (tells t) (subst IsSure (sym (e t)) sure))
-cause_by a b open_fault.ReadFault tells e cause = tt
-cause_by a b open_fault.WriteFault tells e cause = cause
-cause_by a b open_fault.SyncFault tells e cause = tt
-cause_by a b open_fault.Memory tells e cause = tt
+-- the same cases of the same files
+module _ (files others : ℕ → List ℕ) (same : (k : ℕ) → k ≤ 8 → files k ≡ others k) where
+  gap_by : (slot : ℕ) → IsGap files slot → IsGap others slot
+  gap_by slot gap = record {
+    count = gap.count;
+    some = gap.some;
+    there = λ k low. ap is_present (sym (same k (omega (arith, low, gap.above, gap.within)))) ∙ gap.there k low;
+    none = λ k low high. ap is_present (sym (same k (omega (arith, high, gap.within)))) ∙ gap.none k low high;
+    above = gap.above;
+    within = gap.within;
+    is = ap is_present (sym (same slot gap.within)) ∙ gap.is;
+  }
+
+  has_row_by : (count : ℕ) → HasRow files count → HasRow others count
+  has_row_by zero row = ap is_present (sym (same 0 (omega arith))) ∙ row
+  has_row_by (suc n) row = row_by files others (suc n) same row
+
+  row_few : (count : ℕ) → HasRow files count → max 1 count ≤ 9
+  row_few zero row = omega arith
+  row_few (suc n) row = omega (arith, row.few)
+
+  shape_by : shape_of files ≡ shape_of others
+  shape_by = ap (λ (file : List ℕ). header_geometry (headers_of file)) (same 0 (omega arith))
+
+  first_by : (count : ℕ) (why : OpenFault) → count ≤ 9 → IsFirstCase (shape_of files) files count why → IsFirstCase (shape_of others) others count why
+  first_by count why few first = record {
+    slot = first.slot;
+    low = first.low;
+    sound = λ k low.
+        subst (λ (shape : Geometry). IsImageIn shape k (others k)) shape_by
+        (subst (IsImageIn (shape_of files) k) (same k (omega (arith, low, first.low, few))) (first.sound k low));
+    case = subst (λ (shape : Geometry). IsFileCase shape first.slot (others first.slot) why) shape_by
+        (subst (λ (file : List ℕ). IsFileCase (shape_of files) first.slot file why) (same first.slot (omega (arith, first.low, few))) first.case);
+  }
+
+  refused_by : (why : OpenFault) → IsRefused files why → IsRefused others why
+  refused_by why refused = record {
+    count = refused.count;
+    row = has_row_by refused.count refused.row;
+    first = first_by (max 1 refused.count) why (row_few refused.count refused.row) refused.first;
+  }
+
+-- the cause that mounting gives, of the files of a disk's names
+module _ (name : List ℕ) (start bound : Seen) (tells : Tells start → Tells bound) (sure : Tells start → IsSure start.world → IsSure bound.world)
+    (same : Tells start → (k : ℕ) → k ≤ 8 → file_of bound.world k ≡ files_of name start.world k)
+  where
+    case_by : (why : OpenFault) → OfFiles (λ files. IsRefused files why) bound → OfNames (λ files. IsRefused files why) name start
+    case_by why cause at =
+        refused_by (file_of bound.world) (files_of name start.world) (same at.0) why (cause (tells at.0) (sure at.0 at.1))
+
+    files_cause : (why : OpenFault) → IsMountCause bound why → IsFilesCause name start why
+    files_cause (open_fault.Gap slot) cause = λ at.
+        gap_by (file_of bound.world) (files_of name start.world) (same at.0) slot (cause (tells at.0) (sure at.0 at.1))
+    files_cause (open_fault.Header slot fault) cause = case_by (open_fault.Header slot fault) cause
+    files_cause (open_fault.Mismatch slot base found) cause = case_by (open_fault.Mismatch slot base found) cause
+    files_cause (open_fault.Scan slot fault) cause = case_by (open_fault.Scan slot fault) cause
+    files_cause open_fault.ReadFault cause = tt
+    files_cause open_fault.WriteFault cause = cause
+    files_cause open_fault.SyncFault cause = tt
+    files_cause open_fault.Memory cause = tt
 
 counts_opening : (why : OpenFault) (old new : Faults) → CountsOpen {A = ℕ} (Err why) old new → CountsOpening why old new
 counts_opening (open_fault.Gap slot) old new h = h
@@ -67,11 +115,13 @@ fails_to_bind name old new rose some = record {
 -- the slots have their files, which don't open
 pub fails_to_mount : {S : Type 0} (shows : Showing S) (name : List ℕ) (start bound left : S) (why : OpenFault)
     → (Tells (seen shows start) → shows.world bound ≡ after_binds name 9 (shows.world start)) → shows.faults bound ≡ shows.faults start
-    → IsMountCause (seen shows bound) why → SyncsSome (seen shows bound) (seen shows left)
+    → (Tells (seen shows start) → IsTied (shows.world bound)) → IsMountCause (seen shows bound) why → SyncsSome (seen shows bound) (seen shows left)
     → CountsOpen {A = ℕ} (Err why) (shows.faults bound) (shows.faults left)
     → FailsToOpen name why (seen shows start) (seen shows left)
-fails_to_mount shows name start bound left why done still cause syncs counts = record {
-  cause = cause_by (seen shows bound) (with_files name (seen shows start)) why (λ t. t) done cause;
+fails_to_mount shows name start bound left why done still tied cause syncs counts = record {
+  cause = files_cause name (seen shows start) (seen shows bound) (λ t. t)
+      (λ told sure. bound_sure name (shows.world start) (shows.world bound) (done told) (tied told) sure)
+      (λ told. bound_holds name (shows.world start) (shows.world bound) (done told) (tied told)) why cause;
   counts = counts_opening why (shows.faults start) (shows.faults left) (subst (λ (f : Faults). CountsOpen {A = ℕ} (Err why) f (shows.faults left)) still counts);
   done = λ told.
       let some = syncs told in

@@ -1,6 +1,8 @@
 -- What a run promises of the disk that it serves.
 use Rattle.std.specs.Prelude.{◌≡◌, ◌<◌, ◌≤◌, ◌-◌, ◌++◌, ℕ, true, List, [], ◌∷◌, Some, None}
 use Rattle.cckd_base.specs.declared.geometry.Geometry.{Geometry}
+use Rattle.cckd_base.specs.declared.open_fault.OpenFault.{OpenFault}
+use Rattle.cckd_base.specs.declared.open_fault.OpenFault.TheVariants as open_fault
 use Rattle.cckd_shelf.specs.Events.{Event, name_of, output_of, file_now}
 use Rattle.cckd_shelf.specs.Seen.{Seen, Tells}
 use Rattle.cckd_shelf.specs.World.{World, IsSure}
@@ -10,7 +12,7 @@ use Rattle.cckd_stack.specs.History.{Entry, History, IsLegal, broken_at, stack_a
 use Rattle.cckd_stack.specs.Stops.{Survives, hardens}
 use Rattle.cckd_stack.specs.Moments.{EachOpens}
 use Rattle.cckd_stack.specs.Opened.{Opens}
-use Rattle.cckd_stack.specs.Mounting.{IsRow}
+use Rattle.cckd_stack.specs.Mounting.{IsRow, IsGap, IsRefused}
 use Rattle.cckd_stack.specs.Called.{AreSnug}
 use Rattle.cckd_engine.specs.Lines.{Line, LinesAt, history_onto}
 use Rattle.cckd_console.specs.Served.{Served, AreAlone, OnlyRead}
@@ -18,9 +20,18 @@ use Rattle.cckd_top.specs.Names.{slot_name, files_of, after_binds}
 use Rattle.cckd_top.specs.World.{TellsFiles, NothingIsOpen, OnlyMounts, after_mounting}
 use Rattle.cckd_top.specs.Run.{Way, lines_of, history_of}
 
--- what a stage shows once the nine slots have the files of a disk
-abbrev pub with_files : List ℕ → Seen → Seen
-with_files name s = record s { world = after_binds name 9 s.world }
+-- a fact of the files of a disk's names, as far as it is told what they hold
+abbrev pub OfNames : ((ℕ → List ℕ) → Type 0) → List ℕ → Seen → Type 0
+OfNames P name s = TellsFiles s → P (files_of name s.world)
+
+-- Why the files of a disk don't open: their first case, or a call that reads or syncs failed, or memory was wanted.
+abbrev pub IsFilesCause : List ℕ → Seen → OpenFault → Type 0
+IsFilesCause name s (open_fault.Gap slot) = OfNames (λ files. IsGap files slot) name s
+IsFilesCause name s open_fault.ReadFault = Unit {0}
+IsFilesCause name s open_fault.WriteFault = ⊥
+IsFilesCause name s open_fault.SyncFault = Unit {0}
+IsFilesCause name s open_fault.Memory = Unit {0}
+IsFilesCause name s why = OfNames (λ files. IsRefused files why) name s
 
 -- these events begin with others
 pub record GrowsFrom (old new : List Event) : Type 0 where

@@ -2,13 +2,12 @@
 use Rattle.std.specs.Prelude.{◌≡◌, ℕ, List, [], Ok, Err}
 use Rattle.cckd_base.specs.declared.open_fault.OpenFault.{OpenFault}
 use Rattle.cckd_shelf.specs.Seen.{Seen, Tells}
-use Rattle.cckd_stack.specs.Mounting.{IsMountCause}
 use Rattle.cckd_console.specs.Served.{Served}
 use Rattle.cckd_top.specs.declared.halt.Halt.TheVariants as halt
 use Rattle.cckd_top.specs.Words.{Named, named_disk}
 use Rattle.cckd_top.specs.World.{OnlyMounts, GivesUp}
 use Rattle.cckd_top.specs.Run.{Ending, halted, served, Way, script_limit, IsTaken, HasPut}
-use Rattle.cckd_top.specs.Disk.{with_files, RunsDisk}
+use Rattle.cckd_top.specs.Disk.{IsFilesCause, RunsDisk}
 
 -- A run with wrong words puts a line, and does nothing else.
 pub record DoesNothing (old new : Seen) : Type 0 where
@@ -17,7 +16,7 @@ pub record DoesNothing (old new : Seen) : Type 0 where
 
 -- The files of a disk don't open: their first case, as they were at the start, or a call that failed, or want of memory.
 pub record IsRefused (name : List ℕ) (why : OpenFault) (old new : Seen) : Type 0 where
-  pub cause : IsMountCause (with_files name old) why
+  pub cause : IsFilesCause name old why
   pub does : Tells old → GivesUp name why old.world new.world
 
 -- The files of a disk open, and the script was served over them.

@@ -11,7 +11,7 @@ use Rattle.cckd_shelf.specs.Seen.{Seen, seen, Tells}
 use Rattle.cckd_shelf.specs.World.{World, IsSure, file_of}
 use Rattle.cckd_stack.specs.Layers.{Stack}
 use Rattle.cckd_stack.specs.Opened.{Opens}
-use Rattle.cckd_stack.specs.Mounting.{IsRow, IsMountCause}
+use Rattle.cckd_stack.specs.Mounting.{IsRow}
 use Rattle.cckd_stack.specs.Called.{AreSnug}
 use Rattle.cckd_engine.specs.declared.engine.Engine.{Engine}
 use Rattle.cckd_engine.specs.declared.disk.Disk.{Ghosts as Making}
@@ -19,7 +19,7 @@ use Rattle.cckd_engine.specs.Engine.{standing, Stands, Runs, TellsStops}
 use Rattle.cckd_console.specs.Serving.{KeepsLines}
 use Rattle.cckd_top.specs.Names.{files_of, after_binds, AreNamed}
 use Rattle.cckd_top.specs.World.{TellsFiles, NothingIsOpen, after_mounting}
-use Rattle.cckd_top.specs.Disk.{with_files, OpensAt}
+use Rattle.cckd_top.specs.Disk.{OpensAt, IsFilesCause}
 
 -- the nine slots got their files, and each that is there was synced, and nothing else was done
 pub record IsMountedFrom (name : List ℕ) (old new : World) : Type 0 where
@@ -69,7 +69,7 @@ CountsOpening _ old new = new ≡ old
 
 -- The files of a name don't open.
 pub record FailsToOpen (name : List ℕ) (why : OpenFault) (old new : Seen) : Type 0 where
-  pub cause : IsMountCause (with_files name old) why
+  pub cause : IsFilesCause name old why
   pub counts : CountsOpening why old.faults new.faults
   pub done : Tells old → IsTriedFrom name why old.world new.world
 

@@ -19,4 +19,4 @@ returns-in-Ok-mount g c =
 pub returns-in-Err : goal.returns-in-Err
 returns-in-Err g c =
     fails_to_mount g.T.Shows c.args.file.now c.args.stage c.bind_all.new.stage c.in-Err.left c.in-Err.why c.in-Ok.ensures.bound
-    c.in-Ok.ensures.fails.still c.in-Err.ensures.cause c.in-Err.ensures.syncs c.in-Err.ensures.counts
+    c.in-Ok.ensures.fails.still (λ told. g.T.Shows.tied c.bind_all.new.stage told) c.in-Err.ensures.cause c.in-Err.ensures.syncs c.in-Err.ensures.counts
