@@ -98,12 +98,12 @@ values_are column (kind ∷ kinds) (token ∷ rest) =
 -- ---- what the forms request
 
 -- what is requested is served
-IsFit : Request → Type 0
+unfoldable pub IsFit : Request → Type 0
 IsFit request.nothing = Unit {0}
 IsFit (request.one c bs) = IsServed c (length bs)
 IsFit (request.turns count) = ⊥
 
-IfFit : Result Request LineFault → Type 0
+unfoldable pub IfFit : Result Request LineFault → Type 0
 IfFit (Ok r) = IsFit r
 IfFit (Err fault) = Unit {0}
 
@@ -250,7 +250,7 @@ unfolding IfFit IsFit
 line_by true r h = tt
 line_by false r h = h
 
-line_fits : (line : List ℕ) → IfFit (parsed line)
+pub line_fits : (line : List ℕ) → IfFit (parsed line)
 unfolding IfFit IsFit
 line_fits [] = tt
 line_fits (b ∷ rest) = line_by (b == 35) (parsed_tokens (tokens (b ∷ rest))) (tokens_fit (tokens (b ∷ rest)))

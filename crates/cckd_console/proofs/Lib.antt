@@ -1,4 +1,4 @@
-mod AskLemmas
+pub mod AskLemmas
 pub mod CountLemmas
 pub mod JoinLemmas
 mod LineLemmas

@@ -8,3 +8,7 @@ pub mod ExplainedLemmas
 pub mod BoundLemmas
 pub mod OpenLemmas
 pub mod HardenedLemmas
+pub mod OwnLemmas
+pub mod QuietLemmas
+pub mod ServedLemmas
+pub mod OnlyLemmas

@@ -7,3 +7,4 @@ pub mod Disk
 pub mod Opening
 pub mod Ended
 pub mod Explained
+pub mod Unhindered

@@ -2,6 +2,7 @@
 #![tactic(auto)]
 
 mod halt;
+mod laws;
 mod names;
 mod plain;
 mod run;
@@ -12,5 +13,6 @@ mod text;
 mod words;
 
 pub use halt::Halt;
+pub use laws::runs_are_served;
 pub use plain::run_plain;
 pub use status::Status;

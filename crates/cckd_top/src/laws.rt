@@ -1,0 +1,32 @@
+//! What the promise of a run has for whoever reads it. The functions do nothing: each contract is a law.
+ghost use Rattle.std.specs.Prelude.{ℕ, ◌≡◌, ◌<◌, List};
+ghost use Rattle.cckd_base.specs.declared.geometry.Geometry.{Geometry as Shape};
+ghost use Rattle.cckd_base.specs.declared.open_fault.OpenFault.TheVariants.{Memory};
+ghost use Rattle.cckd_shelf.specs.Events.{file_now};
+ghost use Rattle.cckd_shelf.specs.Seen.{Seen};
+ghost use Rattle.cckd_stack.specs.Called.{AreSnug};
+ghost use Rattle.cckd_stack.specs.History.{stack_after};
+ghost use Rattle.cckd_stack.specs.Layers.{Stack as Layered};
+ghost use Rattle.cckd_stack.specs.Opened.{Opens};
+ghost use Rattle.cckd_console.specs.Served.{Served};
+ghost use Rattle.cckd_top.specs.declared.halt.Halt.TheVariants.{Files};
+ghost use Rattle.cckd_top.specs.Explained.{IsExplained};
+ghost use Rattle.cckd_top.specs.Names.{files_of};
+ghost use Rattle.cckd_top.specs.Run.{halted, served, closed, history_of};
+ghost use Rattle.cckd_top.specs.Unhindered.{AreLow, IsUnhindered, ServesAll};
+ghost use Rattle.cckd_top.specs.World.{TellsFiles, NothingIsOpen};
+
+/// A run that nothing hinders serves its whole script, and its status is 0 or 1; or it wanted memory to mount the disk, and its
+/// status is 8. Where each file was snug and nothing stood open, the files are then the stack that its calls leave. And where a
+/// run ends with the status 0 or 1, nothing hindered it.
+pub fn runs_are_served()
+    ensures served { (words : List (List ℕ)) (g : Shape) (s0 : Layered) (old new : Seen) (status : ℕ) → AreLow old.faults → IsUnhindered words g s0 old new
+        → (status ≡ 8 → ⊥) → (run : IsExplained words old new status) → ServesAll g s0 run.end old new status }
+    ensures short_of_memory { (words : List (List ℕ)) (g : Shape) (s0 : Layered) (old new : Seen) (status : ℕ) → AreLow old.faults → IsUnhindered words g s0 old new
+        → status ≡ 8 → (run : IsExplained words old new status) → run.end ≡ halted (Files Memory) }
+    ensures stored { (words : List (List ℕ)) (g : Shape) (s0 : Layered) (old new : Seen) (status : ℕ) → AreLow old.faults → (free : IsUnhindered words g s0 old new)
+        → AreSnug (files_of free.disk.file old.world) → NothingIsOpen old.world → (run : IsExplained words old new status) → (all : List Served) → run.end ≡ served closed all
+        → Opens g (file_now new.world.events) (stack_after g s0 (history_of all)) }
+    ensures only { (words : List (List ℕ)) (old new : Seen) (status : ℕ) → TellsFiles old → status < 2 → IsExplained words old new status
+        → (g : Shape) × (s0 : Layered) × IsUnhindered words g s0 old new }
+{}
