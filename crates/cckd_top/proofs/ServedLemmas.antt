@@ -26,7 +26,7 @@ use Rattle.cckd_console.specs.Served.{Served, called, misread, item_in, line_in,
 use Rattle.cckd_top.specs.declared.halt.Halt.TheVariants as halt
 use Rattle.cckd_console.specs.Script.{closing}
 use Rattle.cckd_top.specs.Disk.{OpensAt, KeepsDisk, EndsHardened, IsFilesCause}
-use Rattle.cckd_top.specs.Explained.{IsExplained, words_are_bad, files_dont_open, disk_is_served, IsServed}
+use Rattle.cckd_top.specs.Explained.{IsExplained, words_are_bad, files_dont_open, disk_is_served, ServesDisk}
 use Rattle.cckd_top.specs.Names.{files_of}
 use Rattle.cckd_top.specs.Run.{Ending, Way, closed, unscripted, cut, halted, served, HasPut, HasPutLines, script_limit, lines_of as put_lines, history_of, halt_account, open_fault_told, source_account}
 use Rattle.cckd_top.specs.Unhindered.{AreLow, IsUnhindered, IsOwnAnswer, refuses, answers, finds_no_room, refused_in, ServesAll}
@@ -119,7 +119,7 @@ module _ (name : List ℕ) (g : Geometry) (s0 : Stack) (old new : Seen) (at : Op
   ]
 
   -- a script that is closed was served whole
-  module _ (xs : List Served) (status : ℕ) (serves : IsServed name closed xs old new) (says : SaysAll (account_of xs) old new status) where
+  module _ (xs : List Served) (status : ℕ) (serves : ServesDisk name closed xs old new) (says : SaysAll (account_of xs) old new status) where
     one_shape : g ≡ serves.runs.geometry
     one_shape =
         let other = serves.runs.mounted at.tells in
@@ -177,7 +177,7 @@ module _ (name : List ℕ) (g : Geometry) (s0 : Stack) (old new : Seen) (at : Op
     | cut_short says is ↦ not_cut _ _ _ old new none says
   ]
 
-  any_way : (way : Way) (xs : List Served) (status : ℕ) → IsServed name way xs old new → HasPutLines way xs old new status
+  any_way : (way : Way) (xs : List Served) (status : ℕ) → ServesDisk name way xs old new → HasPutLines way xs old new status
       → ServesAll g s0 (served way xs) old new status
   any_way closed xs status serves put = closed_all xs status serves put
   any_way unscripted xs status serves put = absurd (not_unscripted xs status put)
@@ -205,7 +205,7 @@ comes_to words disk g s0 old new status good at none run = elim run.cause [
       let same : other ≡ disk = (let e = sym named ∙ good in cc e) in
       let put = subst (λ (end : Ending). HasPut end old new status) is run.printed in
       inl (subst (λ (end : Ending). ServesAll g s0 end old new status) (sym is)
-      (any_way disk.file g s0 old new at none way xs status (subst (λ (d : Named). IsServed d.file way xs old new) same serves) put))
+      (any_way disk.file g s0 old new at none way xs status (subst (λ (d : Named). ServesDisk d.file way xs old new) same serves) put))
       )
 ]
 
@@ -237,9 +237,9 @@ module _ (words : List (List ℕ)) (g : Geometry) (s0 : Stack) (old new : Seen) 
         let way_is : way ≡ closed = cc e in
         let all_are : xs ≡ all = cc e in
         let same : other ≡ free.disk = (let d = sym named ∙ free.named in cc d) in
-        let here : IsServed free.disk.file closed all old new =
-        subst (λ (ys : List Served). IsServed free.disk.file closed ys old new) all_are
-        (subst (λ (w : Way). IsServed free.disk.file w xs old new) way_is (subst (λ (d : Named). IsServed d.file way xs old new) same serves)) in
+        let here : ServesDisk free.disk.file closed all old new =
+        subst (λ (ys : List Served). ServesDisk free.disk.file closed ys old new) all_are
+        (subst (λ (w : Way). ServesDisk free.disk.file w xs old new) way_is (subst (λ (d : Named). ServesDisk d.file way xs old new) same serves)) in
         closed_leaves free.disk.file g s0 old new free.opens none all status here
         (subst (λ (end : Ending). HasPut end old new status) ends run.printed) snug nothing
         )

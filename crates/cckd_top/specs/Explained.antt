@@ -15,12 +15,12 @@ pub record DoesNothing (old new : Seen) : Type 0 where
   pub script : Tells old → new.world.script ≡ old.world.script
 
 -- The files of a disk don't open: their first case, as they were at the start, or a call that failed, or want of memory.
-pub record IsRefused (name : List ℕ) (why : OpenFault) (old new : Seen) : Type 0 where
+pub record DoesNotOpen (name : List ℕ) (why : OpenFault) (old new : Seen) : Type 0 where
   pub cause : IsFilesCause name old why
   pub does : Tells old → GivesUp name why old.world new.world
 
 -- The files of a disk open, and the script was served over them.
-pub record IsServed (name : List ℕ) (way : Way) (xs : List Served) (old new : Seen) : Type 0 where
+pub record ServesDisk (name : List ℕ) (way : Way) (xs : List Served) (old new : Seen) : Type 0 where
   pub taken : Tells old → IsTaken way script_limit old.world.script new.world.script xs
   pub runs : RunsDisk name way xs old new
 
@@ -28,9 +28,9 @@ pub record IsServed (name : List ℕ) (way : Way) (xs : List Served) (old new : 
 pub data HasCause (words : List (List ℕ)) (old new : Seen) (end : Ending) : Type 0 where
   words_are_bad : (n : ℕ) → named_disk words ≡ Err n → end ≡ halted (halt.BadWords n) → DoesNothing old new → HasCause words old new end
   files_dont_open : (disk : Named) → named_disk words ≡ Ok disk → (why : OpenFault) → end ≡ halted (halt.Files why)
-      → IsRefused disk.file why old new → HasCause words old new end
+      → DoesNotOpen disk.file why old new → HasCause words old new end
   disk_is_served : (disk : Named) → named_disk words ≡ Ok disk → (way : Way) → (xs : List Served) → end ≡ served way xs
-      → IsServed disk.file way xs old new → HasCause words old new end
+      → ServesDisk disk.file way xs old new → HasCause words old new end
 
 -- One ending, with its cause in the words, the files and the script as they were at the start, explains what was done, the
 -- output, the status and each count of faults. It is said of what a stage shows at the start and at the end of a run with these
@@ -42,8 +42,8 @@ pub record IsExplained (words : List (List ℕ)) (old new : Seen) (status : ℕ)
 
 -- the same of a run on a disk
 pub data DiskCause (name : List ℕ) (old new : Seen) (end : Ending) : Type 0 where
-  refused : (why : OpenFault) → end ≡ halted (halt.Files why) → IsRefused name why old new → DiskCause name old new end
-  opened : (way : Way) → (xs : List Served) → end ≡ served way xs → IsServed name way xs old new → DiskCause name old new end
+  refused : (why : OpenFault) → end ≡ halted (halt.Files why) → DoesNotOpen name why old new → DiskCause name old new end
+  opened : (way : Way) → (xs : List Served) → end ≡ served way xs → ServesDisk name way xs old new → DiskCause name old new end
 
 pub record ExplainsDisk (name : List ℕ) (old new : Seen) (status : ℕ) : Type 0 where
   pub end : Ending
