@@ -23,7 +23,7 @@ use Rattle.cckd_console.proofs.JoinLemmas.{keeps_twice}
 use Rattle.cckd_console.specs.Saying.{Account, account_of, SaysAll, SaysCut, AreCut, IsSaidBehind, whole, cut_short}
 use Rattle.cckd_top.specs.declared.halt.Halt.TheVariants as halt
 use Rattle.cckd_top.specs.Ended.{EndsScript}
-use Rattle.cckd_top.specs.Explained.{IsExplained, ExplainsDisk, words_are_bad, files_dont_open, disk_is_served, refused, opened}
+use Rattle.cckd_top.specs.Explained.{IsExplained, ExplainsDisk, words_are_bad, words_name_disk, files_dont_open, disk_is_served}
 use Rattle.cckd_top.specs.Names.{slot_name, after_binds}
 use Rattle.cckd_top.specs.Opening.{OpensDisk, FailsToOpen, CountsOpening}
 use Rattle.cckd_top.specs.Run.{Way, closed, unscripted, cut, halted, served, source_account, open_fault_told, script_limit, IsTaken, HasPutLines, lines_of}
@@ -73,7 +73,7 @@ pub disk_fails : {S : Type 0} (shows : Showing S) (start between end : S) (name 
     → ExplainsDisk name (seen shows start) (seen shows end) status
 disk_fails shows start between end name why status fails said puts = record {
   end = halted (halt.Files why);
-  cause = refused why refl (record {
+  cause = files_dont_open why refl (record {
     cause = fails.cause;
     does = λ told.
         let done = fails.done told in
@@ -119,10 +119,7 @@ pub words_name : (words : List (List ℕ)) (old new : Seen) (disk : Named) (stat
     → ExplainsDisk disk.file old new status → IsExplained words old new status
 words_name words old new disk status good explains = record {
   end = explains.end;
-  cause = elim explains.cause [
-    | refused why is cause ↦ files_dont_open disk good why is cause
-    | opened way xs is cause ↦ disk_is_served disk good way xs is cause
-  ];
+  cause = words_name_disk disk good explains.cause;
   printed = explains.printed;
 }
 
@@ -174,7 +171,7 @@ disk_served shows makes start end engine name status opens ends =
     λ told. subst (KeepsAll old) (sym (opens.done told).done) (mounting_keeps name 9 (opens.done told).count old) in
     record {
       end = served ends.way ends.served;
-      cause = opened ends.way ends.served refl (record {
+      cause = disk_is_served ends.way ends.served refl (record {
         taken = λ told. subst (λ (s : List ℕ). IsTaken ends.way script_limit s (shows.world end).script ends.served) (mid_keeps told).script (ends.taken told);
         runs = record {
           geometry = g;

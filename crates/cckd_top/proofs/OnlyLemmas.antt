@@ -17,7 +17,7 @@ use Rattle.cckd_console.specs.Counts.{RoseBy}
 use Rattle.cckd_console.specs.Saying.{Account, account_of, SaysAll, IsSaidBehind, whole, cut_short}
 use Rattle.cckd_console.specs.Served.{Served, called, misread, told_in, is_told, told_of, faults_told, refusal_status, reply_status, status_in, worst, all_text}
 use Rattle.cckd_top.specs.declared.halt.Halt.TheVariants as halt
-use Rattle.cckd_top.specs.Explained.{IsExplained, words_are_bad, files_dont_open, disk_is_served}
+use Rattle.cckd_top.specs.Explained.{IsExplained, words_are_bad, words_name_disk, files_dont_open, disk_is_served}
 use Rattle.cckd_top.specs.Run.{Ending, Way, closed, unscripted, cut, HasPut, HasPutLines, halt_account, source_account}
 use Rattle.cckd_top.specs.Unhindered.{IsUnhindered}
 use Rattle.cckd_top.specs.Text.{open_fault_status}
@@ -115,30 +115,32 @@ run_only words old new status tells few run = elim run.cause [
       let said = subst (λ (end : Ending). HasPut end old new status) is run.printed in
       let most = said_status [] (halt_account (halt.BadWords n)) old new status said in omega (arith, few, most)
       )
-  | files_dont_open other named why is opens ↦ absurd (
-      let said = subst (λ (end : Ending). HasPut end old new status) is run.printed in
-      let most = said_status [] (halt_account (halt.Files why)) old new status said in omega (arith, few, most, unopened why)
-      )
-  | disk_is_served other named way xs is serves ↦ (
-      let put = subst (λ (end : Ending). HasPut end old new status) is run.printed in
-      let says = only_closed way xs old new status few put in
-      let low : worst xs < 2 = omega (arith, few, says.asked) in
-      let zero : AreZero (faults_told xs) = record {
-        reads = low_counts Reads xs low;
-        writes = low_counts Writes xs low;
-        syncs = low_counts Syncs xs low;
-        takes = low_counts Takes xs low;
-        puts = low_counts Puts xs low;
-      } in
-      let some = serves.runs.mounted tells in (
-        serves.runs.geometry,
-        some.0,
-        record {
-          disk = other;
-          named = named;
-          opens = record { tells = tells; opens = some.1 };
-          still = still_counts (faults_told xs) old.faults new.faults zero says.counted;
-        },
-      )
-      )
+  | words_name_disk other named cause ↦ elim cause [
+    | files_dont_open why is opens ↦ absurd (
+        let said = subst (λ (end : Ending). HasPut end old new status) is run.printed in
+        let most = said_status [] (halt_account (halt.Files why)) old new status said in omega (arith, few, most, unopened why)
+        )
+    | disk_is_served way xs is serves ↦ (
+        let put = subst (λ (end : Ending). HasPut end old new status) is run.printed in
+        let says = only_closed way xs old new status few put in
+        let low : worst xs < 2 = omega (arith, few, says.asked) in
+        let zero : AreZero (faults_told xs) = record {
+          reads = low_counts Reads xs low;
+          writes = low_counts Writes xs low;
+          syncs = low_counts Syncs xs low;
+          takes = low_counts Takes xs low;
+          puts = low_counts Puts xs low;
+        } in
+        let some = serves.runs.mounted tells in (
+          serves.runs.geometry,
+          some.0,
+          record {
+            disk = other;
+            named = named;
+            opens = record { tells = tells; opens = some.1 };
+            still = still_counts (faults_told xs) old.faults new.faults zero says.counted;
+          },
+        )
+        )
+  ]
 ]

@@ -26,7 +26,7 @@ use Rattle.cckd_console.specs.Served.{Served, called, misread, item_in, line_in,
 use Rattle.cckd_top.specs.declared.halt.Halt.TheVariants as halt
 use Rattle.cckd_console.specs.Script.{closing}
 use Rattle.cckd_top.specs.Disk.{OpensAt, KeepsDisk, EndsHardened, IsFilesCause}
-use Rattle.cckd_top.specs.Explained.{IsExplained, words_are_bad, files_dont_open, disk_is_served, ServesDisk}
+use Rattle.cckd_top.specs.Explained.{IsExplained, HasCause, DiskCause, words_are_bad, words_name_disk, files_dont_open, disk_is_served, ServesDisk}
 use Rattle.cckd_top.specs.Names.{files_of}
 use Rattle.cckd_top.specs.Run.{Ending, Way, closed, unscripted, cut, halted, served, HasPut, HasPutLines, script_limit, lines_of as put_lines, history_of, halt_account, open_fault_told, source_account}
 use Rattle.cckd_top.specs.Unhindered.{AreLow, IsUnhindered, IsOwnAnswer, refuses, answers, finds_no_room, refused_in, ServesAll}
@@ -92,6 +92,10 @@ base_geometry g files (shadow layer lower) h = base_geometry g files lower h.0
 
 one_geometry : (g other : Geometry) (files : ℕ → List ℕ) (s t : Stack) → Opens g files s → Opens other files t → g ≡ other
 one_geometry g other files s t h k = sym (base_geometry g files s h.stand) ∙ base_geometry other files t k.stand
+
+-- it served all, or it wanted memory
+abbrev pub ComesTo : Geometry → Stack → Ending → Seen → Seen → ℕ → Type 0
+ComesTo g s0 end old new status = ServesAll g s0 end old new status ⊎ ((end ≡ halted (halt.Files open_fault.Memory)) × (status ≡ 8))
 
 -- ---- a run
 
@@ -183,64 +187,73 @@ module _ (name : List ℕ) (g : Geometry) (s0 : Stack) (old new : Seen) (at : Op
   any_way unscripted xs status serves put = absurd (not_unscripted xs status put)
   any_way cut xs status serves put = absurd (not_cut _ _ _ old new none put.0.said)
 
+  -- what a run on the disk comes to
+  disk_comes_to : (end : Ending) (status : ℕ) → DiskCause name old new end → HasPut end old new status → ComesTo g s0 end old new status
+  disk_comes_to end status cause put = elim cause [
+    | files_dont_open why is opens ↦ (
+        let m = only_memory why status opens.cause (subst (λ (e : Ending). HasPut e old new status) is put) in
+        inr (is ∙ ap (λ (w : OpenFault). halted (halt.Files w)) m.0, m.1)
+        )
+    | disk_is_served way xs is serves ↦
+        inl (subst (λ (e : Ending). ServesAll g s0 e old new status) (sym is)
+        (any_way way xs status serves (subst (λ (e : Ending). HasPut e old new status) is put)))
+  ]
+
+  -- what its files are where it was closed
+  disk_leaves : (end : Ending) (status : ℕ) (all : List Served) → DiskCause name old new end → HasPut end old new status → end ≡ served closed all
+      → AreSnug (files_of name old.world) → NothingIsOpen old.world → Opens g (file_now new.world.events) (stack_after g s0 (history_of all))
+  disk_leaves end status all cause put ends snug nothing = elim cause [
+    | files_dont_open why is opens ↦ absurd (let e = sym is ∙ ends in cc e)
+    | disk_is_served way xs is serves ↦ (
+        let e = sym is ∙ ends in
+        let way_is : way ≡ closed = cc e in
+        let all_are : xs ≡ all = cc e in
+        let here : ServesDisk name closed all old new =
+        subst (λ (ys : List Served). ServesDisk name closed ys old new) all_are (subst (λ (w : Way). ServesDisk name w xs old new) way_is serves) in
+        closed_leaves all status here (subst (λ (x : Ending). HasPut x old new status) ends put) snug nothing
+        )
+  ]
+
+-- the cause is that of the disk which the words name
+cause_of_disk : (words : List (List ℕ)) (disk : Named) (old new : Seen) (end : Ending) → named_disk words ≡ Ok disk → HasCause words old new end
+    → DiskCause disk.file old new end
+cause_of_disk words disk old new end good cause = elim cause [
+  | words_are_bad n bad is does ↦ absurd (let e = sym good ∙ bad in cc e)
+  | words_name_disk other named why ↦ (
+      let same : other ≡ disk = (let e = sym named ∙ good in cc e) in
+      subst (λ (d : Named). DiskCause d.file old new end) same why
+      )
+]
+
 not_eight : (b : Bool) → cond {A = ℕ} b 1 0 ≡ 8 → ⊥
 not_eight true e = omega (arith, e)
 not_eight false e = omega (arith, e)
-
--- it served all, or it wanted memory
-abbrev pub ComesTo : Geometry → Stack → Ending → Seen → Seen → ℕ → Type 0
-ComesTo g s0 end old new status = ServesAll g s0 end old new status ⊎ ((end ≡ halted (halt.Files open_fault.Memory)) × (status ≡ 8))
-
-comes_to : (words : List (List ℕ)) (disk : Named) (g : Geometry) (s0 : Stack) (old new : Seen) (status : ℕ) → named_disk words ≡ Ok disk
-    → OpensAt disk.file g s0 old → NoneFailed old.faults new.faults → (run : IsExplained words old new status) → ComesTo g s0 run.end old new status
-comes_to words disk g s0 old new status good at none run = elim run.cause [
-  | words_are_bad n bad is does ↦ absurd (let e = sym good ∙ bad in cc e)
-  | files_dont_open other named why is opens ↦ (
-      let same : other ≡ disk = (let e = sym named ∙ good in cc e) in
-      let said = subst (λ (end : Ending). HasPut end old new status) is run.printed in
-      let m = only_memory disk.file g s0 old new at none why status (subst (λ (d : Named). IsFilesCause d.file old why) same opens.cause) said in
-      inr (is ∙ ap (λ (w : OpenFault). halted (halt.Files w)) m.0, m.1)
-      )
-  | disk_is_served other named way xs is serves ↦ (
-      let same : other ≡ disk = (let e = sym named ∙ good in cc e) in
-      let put = subst (λ (end : Ending). HasPut end old new status) is run.printed in
-      inl (subst (λ (end : Ending). ServesAll g s0 end old new status) (sym is)
-      (any_way disk.file g s0 old new at none way xs status (subst (λ (d : Named). ServesDisk d.file way xs old new) same serves) put))
-      )
-]
 
 -- a run of which that is said
 module _ (words : List (List ℕ)) (g : Geometry) (s0 : Stack) (old new : Seen) (status : ℕ) (low : AreLow old.faults) (free : IsUnhindered words g s0 old new) where
   none : NoneFailed old.faults new.faults
   none = record { still = free.still; low = low }
 
+  run_comes_to : (run : IsExplained words old new status) → ComesTo g s0 run.end old new status
+  run_comes_to run =
+      disk_comes_to free.disk.file g s0 old new free.opens none run.end status
+      (cause_of_disk words free.disk old new run.end free.named run.cause) run.printed
+
   pub run_served : (status ≡ 8 → ⊥) → (run : IsExplained words old new status) → ServesAll g s0 run.end old new status
   run_served enough run = ⊎_elim
       (λ (all : ServesAll g s0 run.end old new status). all)
       (λ (short : (run.end ≡ halted (halt.Files open_fault.Memory)) × (status ≡ 8)). absurd (enough short.1))
-      (comes_to words free.disk g s0 old new status free.named free.opens none run)
+      (run_comes_to run)
 
   pub run_short : status ≡ 8 → (run : IsExplained words old new status) → run.end ≡ halted (halt.Files open_fault.Memory)
   run_short is run = ⊎_elim
       (λ (all : ServesAll g s0 run.end old new status). absurd (not_eight (list_any refused_in all.all) (sym all.status_is ∙ is)))
       (λ (short : (run.end ≡ halted (halt.Files open_fault.Memory)) × (status ≡ 8)). short.0)
-      (comes_to words free.disk g s0 old new status free.named free.opens none run)
+      (run_comes_to run)
 
   -- and its files are the stack that its calls leave
   pub run_stored : AreSnug (files_of free.disk.file old.world) → NothingIsOpen old.world → (run : IsExplained words old new status) → (all : List Served)
       → run.end ≡ served closed all → Opens g (file_now new.world.events) (stack_after g s0 (history_of all))
-  run_stored snug nothing run all ends = elim run.cause [
-    | words_are_bad n bad is does ↦ absurd (let e = sym is ∙ ends in cc e)
-    | files_dont_open other named why is opens ↦ absurd (let e = sym is ∙ ends in cc e)
-    | disk_is_served other named way xs is serves ↦ (
-        let e = sym is ∙ ends in
-        let way_is : way ≡ closed = cc e in
-        let all_are : xs ≡ all = cc e in
-        let same : other ≡ free.disk = (let d = sym named ∙ free.named in cc d) in
-        let here : ServesDisk free.disk.file closed all old new =
-        subst (λ (ys : List Served). ServesDisk free.disk.file closed ys old new) all_are
-        (subst (λ (w : Way). ServesDisk free.disk.file w xs old new) way_is (subst (λ (d : Named). ServesDisk d.file way xs old new) same serves)) in
-        closed_leaves free.disk.file g s0 old new free.opens none all status here
-        (subst (λ (end : Ending). HasPut end old new status) ends run.printed) snug nothing
-        )
-  ]
+  run_stored snug nothing run all ends =
+      disk_leaves free.disk.file g s0 old new free.opens none run.end status all
+      (cause_of_disk words free.disk old new run.end free.named run.cause) run.printed ends snug nothing
