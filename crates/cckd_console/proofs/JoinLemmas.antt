@@ -1,4 +1,5 @@
 -- What is served in several stretches.
+use Rattle.cckd_stack.specs.Room.{Room, IsRoomLegal, room_after}
 use Rattle.std.proofs.Common.{◌≡◌, ℕ, zero, suc, ◌+◌, ◌≤◌, List, [], ◌∷◌, ◌++◌, length, map, Option, refl, sym, ◌∙◌, ap, subst, arith, append_assoc, append-nil, length-append}
 use Rattle.std.specs.List.{AllByRecursion}
 use Rattle.std.proofs.lemmas.List.{map-append}
@@ -16,12 +17,13 @@ use Rattle.cckd_stack.specs.History.{History}
 use Rattle.cckd_stack.specs.Stops.{Survives}
 use Rattle.cckd_stack.specs.Moments.{EachOpens}
 use Rattle.cckd_stack.proofs.HistoryLemmas.{survives_within}
+use Rattle.cckd_engine.specs.Closing.{AreLeftOrClosed, TellsSince}
 use Rattle.cckd_engine.specs.declared.engine.Engine.{Engine}
 use Rattle.cckd_engine.specs.declared.disk.Disk.{Ghosts as Making}
 use Rattle.cckd_engine.specs.declared.tally.Tally.{Tally}
 use Rattle.cckd_engine.specs.Frame.{Spares}
-use Rattle.cckd_engine.specs.Engine.{Standing, standing, Stands, Runs, IsWithStage}
-use Rattle.cckd_engine.specs.Lines.{Line, of_call, of_text, StopAfter, history_onto, lines_since, feeds, LinesAt, KeepsLine}
+use Rattle.cckd_engine.specs.Engine.{Standing, standing, Stands, Runs, IsWithStage, KeepsToRoom}
+use Rattle.cckd_engine.specs.Lines.{Line, of_call, of_text, StopAfter, history_onto, lines_since, feeds, LinesAt, KeepsLine, GrowsFrom, AreFilesThen}
 use Rattle.cckd_engine.proofs.FrameLemmas.{spares_still, spares_twice, spares_takes}
 use Rattle.cckd_engine.proofs.StepLemmas.{each_opens}
 use Rattle.cckd_engine.proofs.ServeLemmas.{feeds_twice, feeds_line, lines_behind}
@@ -141,7 +143,79 @@ only_puts_twice a b c f g = record {
 pub only_puts_still : (a b : World) → b.files ≡ a.files → b.events ≡ a.events → OnlyPuts a b
 only_puts_still a b files events = record { pieces = []; events = events; files = files }
 
+-- ---- the files of entries
+
+pub grows_twice : (a b c : List Event) → GrowsFrom a b → GrowsFrom b c → GrowsFrom a c
+grows_twice a b c f g = record { newer = g.newer ++ f.newer; grown = g.grown ∙ ap (λ (es : List Event). g.newer ++ es) f.grown ∙ sym (append_assoc g.newer f.newer a) }
+
+-- they are looked for from an earlier moment on
+pub then_earlier : (before : List ℕ) (n : ℕ) (xs : List Line) (a b c : List Event) → GrowsFrom a b → AreFilesThen before n xs b c → AreFilesThen before n xs a c
+then_earlier before n [] a b c grows h = tt
+then_earlier before n (of_text text ∷ xs) a b c grows h = then_earlier before (n + 1) xs a b c grows h
+then_earlier before n (of_call e ∷ xs) a b c grows h =
+    (h.0, record { since = grows_twice a b h.0 grows h.1.since; until = h.1.until; lines = h.1.lines; files = h.1.files }, h.2)
+
+-- and up to a later one
+pub then_until : (before : List ℕ) (n : ℕ) (xs : List Line) (a b c : List Event) → GrowsFrom b c → AreFilesThen before n xs a b → AreFilesThen before n xs a c
+then_until before n [] a b c grows h = tt
+then_until before n (of_text text ∷ xs) a b c grows h = then_until before (n + 1) xs a b c grows h
+then_until before n (of_call e ∷ xs) a b c grows h =
+    (h.0, record { since = h.1.since; until = grows_twice h.0 b c h.1.until grows; lines = h.1.lines; files = h.1.files }, then_until before (n + 1) xs h.0 b c grows h.2)
+
+-- with other lines behind them
+then_both : (before : List ℕ) (n : ℕ) (xs ys : List Line) (a b c : List Event) → GrowsFrom a b → GrowsFrom b c → AreFilesThen before n xs a b → AreFilesThen before (length xs + n) ys b c
+    → AreFilesThen before n (xs ++ ys) a c
+then_both before n [] ys a b c first second f g = let e : length {A = Line} [] + n ≡ n = omega arith in then_earlier before n ys a b c first (subst (λ (k : ℕ). AreFilesThen before k ys b c) e g)
+then_both before n (of_text text ∷ xs) ys a b c first second f g =
+    then_both before (n + 1) xs ys a b c first second f (let e : suc (length xs) + n ≡ length xs + (n + 1) = omega arith in subst (λ (k : ℕ). AreFilesThen before k ys b c) e g)
+then_both before n (of_call e ∷ xs) ys a b c first second f g = (
+  f.0,
+  record { since = f.1.since; until = grows_twice f.0 b c f.1.until second; lines = f.1.lines; files = f.1.files },
+  then_both before (n + 1) xs ys f.0 b c f.1.until second f.2 (let e : suc (length xs) + n ≡ length xs + (n + 1) = omega arith in subst (λ (k : ℕ). AreFilesThen before k ys b c) e g),
+)
+
+-- lines that were put before are counted too
+module _ (k : ℕ) (text : List ℕ) (a b : List Event) (put : output_of b ≡ output_of a ++ text) (count : feeds text ≡ k) where
+  since_both : (es : List Event) → GrowsFrom b es → lines_since (output_of a) es ≡ k + lines_since (output_of b) es
+  since_both es grows = subst (λ (x : List Event). lines_since (output_of a) x ≡ k + lines_since (output_of b) x) (sym grows.grown) (
+      let more = grows.newer in
+      let grown = output_grows more b in
+      let here : lines_since (output_of b) (more ++ b) ≡ feeds grown.0 = lines_behind (output_of b) grown.0 (more ++ b) grown.1 in
+      let there : lines_since (output_of a) (more ++ b) ≡ feeds (text ++ grown.0) =
+      lines_behind (output_of a) (text ++ grown.0) (more ++ b)
+      (grown.1 ∙ ap (λ (s : List ℕ). s ++ grown.0) put ∙ append_assoc (output_of a) text grown.0) in
+      omega (arith, here, there, feeds_twice text grown.0, count))
+
+  then_counted : (n : ℕ) (ys : List Line) (o c : List Event) → GrowsFrom b o → AreFilesThen (output_of b) n ys o c → AreFilesThen (output_of a) (k + n) ys o c
+  then_counted n [] o c grows h = tt
+  then_counted n (of_text text ∷ ys) o c grows h =
+      let e : k + (n + 1) ≡ (k + n) + 1 = omega arith in subst (λ (m : ℕ). AreFilesThen (output_of a) m ys o c) e (then_counted (n + 1) ys o c grows h)
+  then_counted n (of_call e ∷ ys) o c grows h = (
+    h.0,
+    record {
+      since = h.1.since;
+      until = h.1.until;
+      lines = (let s = since_both h.0 (grows_twice b o h.0 grows h.1.since) in let l = h.1.lines in omega (arith, s, l));
+      files = h.1.files;
+    },
+    let same : k + (n + 1) ≡ (k + n) + 1 = omega arith in
+        subst (λ (m : ℕ). AreFilesThen (output_of a) m ys h.0 c) same (then_counted (n + 1) ys h.0 c (grows_twice b o h.0 grows h.1.since) h.2),
+  )
+
+pub then_twice : (xs ys : List Line) (text : List ℕ) (a b c : List Event) → output_of b ≡ output_of a ++ text → feeds text ≡ length xs → GrowsFrom a b → GrowsFrom b c
+    → AreFilesThen (output_of a) 0 xs a b → AreFilesThen (output_of b) 0 ys b c → AreFilesThen (output_of a) 0 (xs ++ ys) a c
+then_twice xs ys text a b c put count first second f g =
+    then_both (output_of a) 0 xs ys a b c first second f (then_counted (length xs) text a b put count 0 ys b c (record { newer = []; grown = refl }) g)
+
 -- ---- an engine
+
+-- the room is kept to with another stage
+pub room_with_stage : {S D : Type 0} (shows : Showing S) (makes : Making D) (a b : Engine S D) → IsWithStage b a → (s0 : Stack) (h : History) (room : Room)
+    → KeepsToRoom (makes.has_room a.disk) room s0 h (standing shows makes a) → KeepsToRoom (makes.has_room b.disk) room s0 h (standing shows makes b)
+room_with_stage shows makes a b rest s0 h room keeps = record {
+  kept = subst (λ (d : _). IsRoomLegal (makes.geometry d) room s0 h) (sym rest.disk) keeps.kept;
+  left = λ none. subst (λ (d : _). makes.has_room d (room_after (makes.geometry d) room h)) (sym rest.disk) (keeps.left (sym rest.broken ∙ none));
+}
 
 module _ {S D : Type 0} (shows : Showing S) (makes : Making D) (xs ys : List Served) (a b c : Engine S D)
     (f : Serves shows makes xs a b) (k : Serves shows makes ys b c)
@@ -159,8 +233,22 @@ module _ {S D : Type 0} (shows : Showing S) (makes : Making D) (xs ys : List Ser
           subst (λ (later : History). Stands s0 later (standing shows makes c))
           (sym (history_twice (map line_in xs) (map line_in ys) h) ∙ ap (λ (lines : List Line). history_onto lines h) (sym lines_are))
           (k.stands s0 (history_onto (map line_in xs) h) told (f.stands s0 h told stands));
+      room = λ s0 h room told stands keeps.
+          subst (λ (later : History). KeepsToRoom (makes.has_room c.disk) room s0 later (standing shows makes c))
+          (sym (history_twice (map line_in xs) (map line_in ys) h) ∙ ap (λ (lines : List Line). history_onto lines h) (sym lines_are))
+          (k.room s0 (history_onto (map line_in xs) h) room told (f.stands s0 h told stands) (f.room s0 h room told stands keeps));
+      files = λ told.
+          let one = (f.spares.leaves told).others in
+          let two = (k.spares.leaves told).others in
+          subst (λ (lines : List Line). AreFilesThen (output_of (shows.world a.stage).events) 0 lines (shows.world a.stage).events (shows.world c.stage).events) (sym lines_are)
+          (then_twice (map line_in xs) (map line_in ys) (all_text xs) (shows.world a.stage).events (shows.world b.stage).events (shows.world c.stage).events (put told) (feeds_of xs f.lines)
+          (record { newer = one.newer; grown = one.grown }) (record { newer = two.newer; grown = two.grown }) (f.files told) (k.files told));
       runs = λ runs. k.runs (f.runs runs);
       agrees = λ told agrees. k.agrees told (f.agrees told agrees);
+      closes = λ base h told tells was.
+          subst (λ (later : History). TellsSince (makes.marks c.disk) c.broken base later (shows.world c.stage).events)
+          (sym (history_twice (map line_in xs) (map line_in ys) h) ∙ ap (λ (lines : List Line). history_onto lines h) (sym lines_are))
+          (k.closes base (history_onto (map line_in xs) h) told (f.agrees told tells) (f.closes base h told tells was));
       stops = λ s0 h told stands tells left.
           let first = f.stops s0 h told stands tells left in
           let second = k.stops s0 (history_onto (map line_in xs) h) told (f.stands s0 h told stands) (f.agrees told tells)
@@ -186,8 +274,11 @@ serves_none shows makes a = record {
   alone = tt;
   geometry = refl;
   stands = λ s0 h told stands. stands;
+  room = λ s0 h room told stands keeps. keeps;
+  files = λ told. tt;
   runs = λ runs. runs;
   agrees = λ told agrees. agrees;
+  closes = λ base h told tells was. was;
   stops = λ s0 h told stands tells left. keeps_none (makes.geometry a.disk) s0 h (shows.world a.stage).events left;
   quiet = λ same reads. (same, λ told. only_puts_still (shows.world a.stage) (shows.world a.stage) refl refl);
   spares = spares_still (makes.spares a.disk) (seen shows a.stage);
@@ -223,8 +314,14 @@ module _ {S D : Type 0} (shows : Showing S) (makes : Making D) (a b : Engine S D
       alone = tt;
       geometry = ap makes.geometry rest.disk;
       stands = λ s0 h told stands. subst (Stands s0 h) (standing_taken told) stands;
+      room = λ s0 h room told stands keeps. room_with_stage shows makes a b rest s0 h room keeps;
+      files = λ told. tt;
       runs = runs;
       agrees = λ told agrees none. same_here makes.agrees told (agrees (sym rest.broken ∙ none));
+      closes = λ base h told tells was. record {
+        since = λ none. same_here (λ (d : D) (es : List Event). makes.marks d base es) told (was.since (sym rest.broken ∙ none));
+        closed = λ ends. subst (AreLeftOrClosed base) (sym (only told).events) (was.closed ends);
+      };
       stops = λ s0 h told stands tells left.
           subst (λ (es : List Event). KeepsLines (makes.geometry a.disk) s0 h [] (output_of (shows.world a.stage).events) (shows.world a.stage).events es)
           (sym (only told).events) (keeps_none (makes.geometry a.disk) s0 h (shows.world a.stage).events left);

@@ -4,7 +4,7 @@ use Rattle.cckd_shelf.specs.declared.shows.Shows.{Ghosts as Showing}
 use Rattle.cckd_shelf.specs.declared.fault.Failed.{Failed}
 use Rattle.cckd_shelf.specs.declared.fault.Kind.TheVariants.{Puts}
 use Rattle.cckd_shelf.specs.Faults.{Raises}
-use Rattle.cckd_shelf.specs.Events.{output_of}
+use Rattle.cckd_shelf.specs.Events.{Event, output_of}
 use Rattle.cckd_shelf.specs.World.{World}
 use Rattle.cckd_shelf.specs.Seen.{Seen, seen, Tells}
 use Rattle.cckd_shelf.specs.Frame.{PutsAll, PutsSome, PutsFront}
@@ -16,6 +16,7 @@ use Rattle.cckd_stack.specs.Layers.{Stack}
 use Rattle.cckd_stack.specs.History.{Entry, History}
 use Rattle.cckd_stack.specs.Stops.{Survives}
 use Rattle.cckd_stack.specs.Moments.{EachOpens}
+use Rattle.cckd_engine.specs.Closing.{TellsSince}
 use Rattle.cckd_engine.specs.declared.engine.Engine.{Engine}
 use Rattle.cckd_engine.specs.declared.disk.Disk.{Ghosts as Making}
 use Rattle.cckd_engine.specs.Frame.{Spares}
@@ -29,7 +30,7 @@ use Rattle.cckd_console.specs.Saying.{account_of, SaysAll, AreCut, if_printed}
 use Rattle.cckd_console.specs.Serving.{OnlyPuts, Serves, AreSaid, ServesItems}
 use Rattle.cckd_console.proofs.CountLemmas.{rose_none, rose_reply, rose_so_far, rose_and_one}
 use Rattle.cckd_console.proofs.SayingLemmas.{text_one, says_none}
-use Rattle.cckd_console.proofs.JoinLemmas.{keeps_one, serves_none}
+use Rattle.cckd_console.proofs.JoinLemmas.{keeps_one, serves_none, room_with_stage}
 
 front_only : (text : List ℕ) (old new : World) → PutsFront text old new → OnlyPuts old new
 front_only text old new front = record { pieces = front.put.pieces; events = front.put.events; files = front.put.files }
@@ -115,6 +116,8 @@ module _ {S D : Type 0} (shows : Showing S) (makes : Making D) (a c : Engine S D
     (runs : Runs (makes.tied a.disk) a.broken (seen shows a.stage) → Runs (makes.tied c.disk) c.broken (seen shows c.stage))
     (agrees : Tells (seen shows a.stage) → TellsStops (makes.agrees a.disk) a.broken (shows.world a.stage).events
     → TellsStops (makes.agrees c.disk) c.broken (shows.world c.stage).events)
+    (closes : (base : List Event) (h : History) → Tells (seen shows a.stage) → TellsSince (makes.marks a.disk) a.broken base h (shows.world a.stage).events
+    → TellsSince (makes.marks c.disk) c.broken base h (shows.world c.stage).events)
   where
     does_refuse : Serves shows makes (misread why ∷ []) a c
     does_refuse = record {
@@ -122,8 +125,11 @@ module _ {S D : Type 0} (shows : Showing S) (makes : Making D) (a c : Engine S D
       alone = (tt, tt);
       geometry = ap makes.geometry rest.disk;
       stands = stands;
+      room = λ s0 h room told before keeps. room_with_stage shows makes a c rest s0 h room keeps;
+      files = λ told. tt;
       runs = runs;
       agrees = agrees;
+      closes = λ base h told tells was. closes base h told was;
       stops = λ s0 h told stands tells left.
           keeps_one (makes.geometry a.disk) s0 h (of_text (misreading_line why)) (output_of (shows.world a.stage).events)
           (shows.world a.stage).events (shows.world c.stage).events

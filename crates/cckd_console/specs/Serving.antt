@@ -1,4 +1,5 @@
 -- A script that is served over an engine: what was served, what was told, and what it did.
+use Rattle.cckd_stack.specs.Room.{Room}
 use Rattle.std.specs.Prelude.{◌≡◌, ◌≤◌, ℕ, ◌+◌, false, List, ◌++◌, map, Result, Ok, Err, OnOk}
 use Rattle.cckd_base.specs.declared.geometry.Geometry.{Geometry}
 use Rattle.cckd_shelf.specs.declared.shows.Shows.{Ghosts as Showing}
@@ -16,8 +17,9 @@ use Rattle.cckd_stack.specs.Moments.{EachOpens}
 use Rattle.cckd_engine.specs.declared.engine.Engine.{Engine}
 use Rattle.cckd_engine.specs.declared.disk.Disk.{Ghosts as Making}
 use Rattle.cckd_engine.specs.Frame.{Spares}
-use Rattle.cckd_engine.specs.Engine.{standing, Stands, Runs, TellsStops}
-use Rattle.cckd_engine.specs.Lines.{Line, history_onto, LinesAt}
+use Rattle.cckd_engine.specs.Engine.{standing, Stands, Runs, TellsStops, KeepsToRoom}
+use Rattle.cckd_engine.specs.Lines.{Line, history_onto, LinesAt, AreFilesThen}
+use Rattle.cckd_engine.specs.Closing.{TellsSince}
 use Rattle.cckd_console.specs.declared.stop.Stop.{Stop}
 use Rattle.cckd_console.specs.declared.stop.Stop.TheVariants as stop
 use Rattle.cckd_console.specs.Script.{IsReadOut, OfTheTaken, OfACut, OfTheScript, closing}
@@ -45,6 +47,12 @@ pub record Serves {S D : Type 0} (shows : Showing S) (makes : Making D) (served 
   pub geometry : makes.geometry new.disk ≡ makes.geometry old.disk
   pub stands : (s0 : Stack) (h : History) → Tells (seen shows old.stage) → Stands s0 h (standing shows makes old)
       → Stands s0 (history_onto (map line_in served) h) (standing shows makes new)
+  -- it keeps to the room that it began with, and the files of each entry are those of a moment before its line
+  pub room : (s0 : Stack) (h : History) (room : Room) → Tells (seen shows old.stage) → Stands s0 h (standing shows makes old)
+      → KeepsToRoom (makes.has_room old.disk) room s0 h (standing shows makes old)
+      → KeepsToRoom (makes.has_room new.disk) room s0 (history_onto (map line_in served) h) (standing shows makes new)
+  pub files : Tells (seen shows old.stage)
+      → AreFilesThen (output_of (shows.world old.stage).events) 0 (map line_in served) (shows.world old.stage).events (shows.world new.stage).events
   pub runs : Runs (makes.tied old.disk) old.broken (seen shows old.stage) → Runs (makes.tied new.disk) new.broken (seen shows new.stage)
   -- at each operation whatever a stop leaves is what the calls of the whole lines may leave, and the call of the next one
   pub agrees : Tells (seen shows old.stage) → TellsStops (makes.agrees old.disk) old.broken (shows.world old.stage).events
@@ -54,6 +62,12 @@ pub record Serves {S D : Type 0} (shows : Showing S) (makes : Making D) (served 
       → EachOpens (makes.geometry old.disk) (Survives (makes.geometry old.disk) s0 h) (shows.world old.stage).events
       → KeepsLines (makes.geometry old.disk) s0 h (map line_in served) (output_of (shows.world old.stage).events)
       (shows.world old.stage).events (shows.world new.stage).events
+  -- where it was told what was done to the files since earlier events, it is told again; and behind a last call that was answered
+  -- `closed` each file was left or is closed
+  pub closes : (base : List Event) (h : History) → Tells (seen shows old.stage)
+      → TellsStops (makes.agrees old.disk) old.broken (shows.world old.stage).events
+      → TellsSince (makes.marks old.disk) old.broken base h (shows.world old.stage).events
+      → TellsSince (makes.marks new.disk) new.broken base (history_onto (map line_in served) h) (shows.world new.stage).events
   -- in any case nothing is done to the files that the disk leaves alone
   pub spares : Spares (makes.spares old.disk) (makes.spares new.disk) (seen shows old.stage) (seen shows new.stage)
   -- where no call writes, a disk that wasn't changed stays so, and nothing is done to its files

@@ -1,4 +1,7 @@
 -- What a call of a stack is, as an engine asks it of its disk.
+use Rattle.cckd_engine.proofs.RoomLemmas.{StaysLast, room_looks, room_hardens}
+use Rattle.cckd_base.specs.declared.space.Full.{Full}
+use Rattle.cckd_stack.specs.Room.{IfFull}
 use Rattle.std.proofs.Common.{◌≡◌, ℕ, ◌≤◌, false, List, [], length, Option, Some, None, Result, Ok, Err, OnOk, IfErr, refl, sym, ◌∙◌, ap, subst}
 use Rattle.std.specs.Option.{option_or}
 use Rattle.cckd_base.specs.declared.geometry.Geometry.{Geometry}
@@ -24,14 +27,15 @@ use Rattle.cckd_stack.specs.Answers.{Request, Answer, MayAnswer, refuses, plain,
 use Rattle.cckd_stack.specs.History.{refusal_breaks, reply_breaks}
 use Rattle.cckd_stack.specs.Stops.{Lies, hardens}
 use Rattle.cckd_stack.specs.Moments.{EachOpens, Hardening, IsHardened}
-use Rattle.cckd_stack.specs.Stacked.{StackState, InLayer, CanReadAll, OnlyCaches, CountsFault, CountsKind, kind_told, with_layers}
-use Rattle.cckd_stack.specs.Writes.{AgreeAll, AreUnchanged, KeepsEach, HasHardening, StopsLie, StopsSettle, OnlyHardens, reply_by, refusal_by, is_broken_by}
+use Rattle.cckd_stack.specs.Stacked.{StackState, InLayer, CanReadAll, OnlyCaches, CountsFault, CountsKind, kind_told, with_layers, IsStack, AreLayersFrom}
+use Rattle.cckd_stack.specs.Writes.{AgreeAll, AreUnchanged, KeepsEach, HasHardening, StopsLie, StopsSettle, OnlyHardens, reply_by, refusal_by, is_broken_by, IsHardenedLast}
 use Rattle.cckd_stack.specs.Called.{CanCall, AgreesAfter, stack_in, only_events}
 use Rattle.cckd_stack.proofs.CalledLemmas.{stops_unhardened, harden_answers, harden_stack, harden_stops, call_breaks}
 use Rattle.cckd_stack.proofs.TiedLemmas.{agree_by, caches_keep, caches_unchanged, tied_sure}
 use Rattle.cckd_engine.specs.Calls.{CountsReply, CountsOne, RunStays, asks, fault_told}
 use Rattle.cckd_engine.specs.Frame.{Spares, IsLower}
 use Rattle.cckd_engine.specs.Performs.{Performs}
+use Rattle.cckd_engine.specs.Closing.{ClosesFiles}
 use Rattle.cckd_engine.proofs.FrameLemmas.{spares_still, reads_spare}
 
 -- ---- a world of which what happened is told
@@ -44,7 +48,7 @@ agrees_then s w agree = agree_by s.layers w (only_events w.events) refl agree
 
 -- ---- a track that the device doesn't have
 
-module _ (old : StackState) (now : Seen) (can : CanCall old now) where
+module _ (old : StackState) (now : Seen) (can : CanCall old now) (is : IsStack old) where
   pub no_track : (r : Request) → no_such_track old.geometry (address_in r.asked) ≡ Some refusal.NoSuchTrack
       → Performs r (refused refusal.NoSuchTrack) old old now now
   no_track r none = record {
@@ -60,6 +64,8 @@ module _ (old : StackState) (now : Seen) (can : CanCall old now) where
         (at_once (EachOpens old.geometry (Lies was.hard was.later)) now.world.events hardened.stops) refl;
     quiet = λ unchanged silent. (unchanged, λ told. refl);
     spares = spares_still (IsLower old) now;
+    room = λ told sure. room_looks r (reply.Refused refusal.NoSuchTrack) old old now now is.layers is.some refl (can.tied told sure) refl (λ P. tt);
+    closes = λ base told agree m. record { again = λ fine. m; closed = λ closed. absurd (let e = closed in cc) };
     counts = refl;
     run = λ told. record { output = refl; script = refl };
   }
@@ -109,9 +115,9 @@ on_ok A P Q (Err why) h f = tt
 -- ---- calls that only read
 
 module _ (old new : StackState) (before after : Seen) (can : CanCall old before) (tells : Tells before → Tells after) (back : Tells after → Tells before)
-    (rest : new ≡ with_layers old new.layers) (caches : OnlyCaches old.layers new.layers) (can_read : CanReadAll new.layers after) (kept : Stays before after)
+    (rest : new ≡ with_layers old new.layers) (caches : OnlyCaches old.layers new.layers) (can_read : CanReadAll new.layers after) (kept : Stays before after) (is : IsStack old)
   where
-    reads_keep : KeepsEach null_track old.layers new.layers before after
+    pub reads_keep : KeepsEach null_track old.layers new.layers before after
     reads_keep = caches_keep null_track old.layers new.layers before after caches tells kept can_read
 
     pub reads_do : (r : Request) (said : Answer)
@@ -120,8 +126,10 @@ module _ (old new : StackState) (before after : Seen) (can : CanCall old before)
         → ((s : Stack) → stack_after_call old.geometry s r said.reply ≡ s)
         → hardens r.asked said.reply ≡ false
         → CountsReply said.reply before.faults after.faults
+        → ((P : Full → Type 0) → IfFull said.reply P)
+        → ClosesFiles r said old new before after
         → Performs r said old new before after
-    reads_do r said answers fits same calm counts = record {
+    reads_do r said answers fits same calm counts roomy closes = record {
       answers = answers;
       fits = fits;
       stack = λ told sure fine. (reads_keep.tied told (can.tied told sure)).are ∙ sym (same (stack_in old before.world.events));
@@ -137,6 +145,8 @@ module _ (old new : StackState) (before after : Seen) (can : CanCall old before)
           (kept_at (EachOpens old.geometry (Lies was.hard was.later)) before.world after.world (kept told) hardened.stops) calm;
       quiet = λ unchanged silent. (caches_unchanged old.layers new.layers caches unchanged, kept);
       spares = reads_spare old new before after caches kept;
+      room = λ told sure. room_looks r said.reply old new before after is.layers is.some caches (reads_keep.tied told (can.tied told sure)).agree calm roomy;
+      closes = closes;
       counts = counts;
       run = λ told. record { output = ap (λ (w : World). output_of w.events) (kept told); script = ap (λ (w : World). w.script) (kept told) };
     }
@@ -169,10 +179,16 @@ module _ (old new : StackState) (before after : Seen) (can : CanCall old before)
         → OnOk result (StopsSettle null_track old.geometry old.layers before after)
         → IfErr result (InLayer IsOutside) → CountsFault result before.faults after.faults
         → (AreUnchanged old.layers → AreUnchanged new.layers × Stays before after)
+        → AreLayersFrom old.geometry 0 old.layers → StaysLast old.layers new.layers → OnOk result (IsHardenedLast new.layers)
+        → ((reply_breaks c (reply_by done result) ≡ false → new.broken ≡ false)
+        → (reply_breaks c (reply_by done result) ≡ false → Tells before → AgreesAfter old before.world.events → AgreesAfter new after.world.events)
+        → ClosesFiles (asks c given) (plain (reply_by done result)) old new before after)
         → Performs (asks c given) (plain (reply_by done result)) old new before after
-    harden_does c given done only calm answered fits none map settles refusal counts quiet =
+    harden_does c given done only calm answered fits none map settles refusal counts quiet layers last hard closes =
         let whole : reply_breaks c (reply_by done result) ≡ false → new.broken ≡ false =
         λ fine. broken ∙ sym (call_breaks (Unit {0}) c done result calm answered) ∙ fine in
+        let again : reply_breaks c (reply_by done result) ≡ false → Tells before → AgreesAfter old before.world.events → AgreesAfter new after.world.events =
+        λ fine told agree. agrees_then new after.world ((map (whole fine)).agreed told (agrees_now old before.world agree)).agree in
         record {
           answers = λ told sure. harden_answers (Unit {0}) old.geometry (stack_in old before.world.events) given c done result only refusal;
           fits = done_fits (Unit {0}) IsOutside c (length given) done result fits refusal;
@@ -185,13 +201,15 @@ module _ (old new : StackState) (before after : Seen) (can : CanCall old before)
             tied = λ told sure. ((map (whole fine)).tied (back told) (can.tied (back told) (grown (back told) sure))).agree;
           };
           geometry = geometry;
-          agrees = λ fine told agree. agrees_then new after.world ((map (whole fine)).agreed told (agrees_now old before.world agree)).agree;
+          agrees = again;
+          closes = closes whole again;
           stops = λ was told agree is hardened.
               let h = has old before was told agree is hardened in
               harden_stops (Unit {0}) old.geometry was given c done result before.world.events after.world.events only (lies was h)
               (on_ok (Unit {0}) (StopsSettle null_track old.geometry old.layers before after) (EachOpens old.geometry (Lies was.stack []) after.world.events) result settles (λ settle. settle was h));
           quiet = λ unchanged silent. quiet unchanged;
           spares = spares;
+          room = λ told sure. room_hardens c given done result old new before after layers only refusal last hard (λ fine. ((map (whole fine)).tied told (can.tied told sure)).agree);
           counts = done_counts (Unit {0}) done result before.faults after.faults none counts;
           run = run;
         }

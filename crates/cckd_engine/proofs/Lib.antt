@@ -4,3 +4,5 @@ pub mod FrameLemmas
 pub mod CallLemmas
 pub mod TrackCallLemmas
 pub mod MountLemmas
+pub mod RoomLemmas
+pub mod ClosingLemmas

@@ -1,4 +1,5 @@
 -- A call that is served: its step, and then its line.
+use Rattle.cckd_stack.specs.Room.{Room, IsRoomLegal, room_after}
 use Rattle.std.proofs.Common.{◌≡◌, ◌≢◌, ℕ, zero, suc, ◌+◌, ◌≤◌, ◌==◌, Bool, true, false, cond, List, [], ◌∷◌, ◌++◌, length, take, drop, Option, refl, sym, ◌∙◌, ap, subst, arith, inl, inr, append-nil}
 use Rattle.std.specs.List.{AllByRecursion}
 use Rattle.std.proofs.lemmas.Bool.{cases_Bool, ne_eqb, cond-false}
@@ -18,8 +19,8 @@ use Rattle.cckd_stack.specs.Stops.{Survives, SurvivesWithin}
 use Rattle.cckd_stack.specs.Moments.{EachOpens}
 use Rattle.cckd_stack.proofs.HistoryLemmas.{survives_within}
 use Rattle.cckd_engine.specs.declared.tally.Tally.{Tally}
-use Rattle.cckd_engine.specs.Engine.{Stands, TellsStops, KeepsHistory, entry_of}
-use Rattle.cckd_engine.specs.Lines.{Line, of_call, of_text, StopAfter, history_onto, HasFront, feeds, lines_since, LinesAt, KeepsLine}
+use Rattle.cckd_engine.specs.Engine.{Stands, TellsStops, KeepsHistory, entry_of, KeepsToRoom}
+use Rattle.cckd_engine.specs.Lines.{Line, of_call, of_text, StopAfter, history_onto, HasFront, feeds, lines_since, LinesAt, KeepsLine, GrowsFrom, AreFilesThen}
 
 -- ---- line feeds
 
@@ -98,6 +99,29 @@ module _ (session : Option ℕ) (r : Request) (said : Answer) (s0 : Stack) (h : 
   same_entry =
       ap (λ (files : ℕ → List ℕ). record { session = session; request = r; answer = said; files = files })
       (sym (ap file_now put.put.events ∙ files_at_puts put.put.pieces mid.events))
+
+  -- the room is kept to, whatever is put
+  pub room_at_puts : (has : Room → Type 0) (room : Room) (g : Geometry) (stack : List Event → Stack) (calls : ℕ) (broken : Option ℕ) (tally : Tally)
+      → KeepsToRoom has room s0 (entry_of session r said mid.events ∷ h) (record { geometry = g; stack = stack mid.events; sure = is_sure mid.events; calls = calls; broken = broken; tally = tally })
+      → KeepsToRoom has room s0 (entry_of session r said new.events ∷ h) (record { geometry = g; stack = stack new.events; sure = is_sure new.events; calls = calls; broken = broken; tally = tally })
+  room_at_puts has room g stack calls broken tally keeps = record {
+    kept = subst (λ (e : Entry). IsRoomLegal g room s0 (e ∷ h)) same_entry keeps.kept;
+    left = λ none. subst (λ (e : Entry). has (room_after g room (e ∷ h))) same_entry (keeps.left none);
+  }
+
+  -- its files are those that the step left, before its line was put
+  pub files_at_puts_of : (old : World) → GrowsFrom old.events mid.events → output_of mid.events ≡ output_of old.events
+      → AreFilesThen (output_of old.events) 0 (of_call (entry_of session r said new.events) ∷ []) old.events new.events
+  files_at_puts_of old since silent = (
+    mid.events,
+    record {
+      since = since;
+      until = record { newer = puts put.put.pieces; grown = put.put.events };
+      lines = lines_behind (output_of old.events) [] mid.events (silent ∙ sym (append-nil (output_of old.events)));
+      files = ap (λ (e : Entry). e.files) (sym same_entry);
+    },
+    tt,
+  )
 
   pub stands_at_puts : (g : Geometry) (stack : List Event → Stack) (calls : ℕ) (broken : Option ℕ) (tally : Tally)
       → ((bytes : List ℕ) (es : List Event) → stack (Put bytes ∷ es) ≡ stack es)

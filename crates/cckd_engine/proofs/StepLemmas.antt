@@ -1,5 +1,6 @@
 -- A step of an engine, from what its disk made of the call.
-use Rattle.std.proofs.Common.{◌≡◌, ℕ, ◌+◌, Bool, true, false, List, ◌∷◌, length, Option, Some, None, refl, sym, ◌∙◌, ap, subst, arith, inl, inr}
+use Rattle.cckd_stack.specs.Room.{Room, KeepsRoom, HasRoomCause, IsRoomLegal, room_after, room_after_call}
+use Rattle.std.proofs.Common.{◌≡◌, ℕ, ◌+◌, Bool, true, false, List, ◌∷◌, length, Option, Some, None, refl, sym, ◌∙◌, ap, subst, arith, inl, inr, []}
 use Rattle.std.specs.Prelude.{if◌then◌else◌}
 use Rattle.std.proofs.lemmas.Bool.{cases_Bool}
 use Rattle.cckd_base.specs.declared.geometry.Geometry.{Geometry}
@@ -14,7 +15,7 @@ use Rattle.cckd_stack.specs.Stops.{Lies, StaysWithin, Survives, SurvivesWithin, 
 use Rattle.cckd_stack.specs.Opened.{OpensTo}
 use Rattle.cckd_stack.specs.Moments.{EachOpens, Hardening, IsHardened, KeepsStops}
 use Rattle.cckd_stack.proofs.HistoryLemmas.{survives_unbroken, survives_next, survives_broke, survives_still, within_unbroken, within_broken, last_lies}
-use Rattle.cckd_engine.specs.Engine.{tallied, tally_of, Standing, Stands, KeepsHistory}
+use Rattle.cckd_engine.specs.Engine.{tallied, tally_of, Standing, Stands, KeepsHistory, KeepsToRoom}
 
 Some≢None : {A : Type 0} {P : Type 0} (a : A) → ◌≡◌ {A = Option A} (Some a) None → P
 Some≢None a e = absurd (cc e)
@@ -132,4 +133,53 @@ module _ (g : Geometry) (s0 : Stack) (h : History) (e : Entry) (s : Standing) (o
           after = subst (λ (es : List Event). EachOpens g (Survives g s0 (e ∷ h)) es) (sym still)
               (each_opens g (Survives g s0 h) (Survives g s0 (e ∷ h)) old
               (λ x survives. subst (λ (X : Type 0). X) (sym (survives_still g s0 h e x at before)) survives) left);
+        }
+
+-- ---- the room
+
+-- a history leaves the limit and the most bytes as they are
+most_kept : (g : Geometry) (room : Room) (h : History) → (room_after g room h).most ≡ room.most
+most_kept g room [] = refl
+most_kept g room (e ∷ earlier) = most_kept g room earlier
+
+module _ (has next : Room → Type 0) (room : Room) (s0 : Stack) (h : History) (e : Entry) (old new : Standing) (stands : Stands s0 h old) (same : new.geometry ≡ old.geometry) (keeps : KeepsToRoom has room s0 h old)
+  where
+    pub room_next : old.broken ≡ None → new.broken ≡ number_if (breaks e) new.calls
+        → ((room : Room) → has room → KeepsRoom old.geometry room old.stack e.request e.answer.reply e.files)
+        → ((room : Room) → has room → breaks e ≡ false → next (room_after_call old.geometry room e.request e.answer.reply)) → KeepsToRoom next room s0 (e ∷ h) new
+    room_next none broken kept on =
+        let before : broken_at h ≡ None = sym stands.breaks ∙ none in
+        let here : old.stack ≡ stack_after old.geometry s0 h = stands.last none in
+        let left = keeps.left none in
+        let k = subst (λ (s : Stack). KeepsRoom old.geometry (room_after old.geometry room h) s e.request e.answer.reply e.files) here (kept (room_after old.geometry room h) left) in
+        record {
+          kept = subst (λ (g : Geometry). IsRoomLegal g room s0 (e ∷ h)) (sym same) (
+            keeps.kept,
+            record {
+              full = k.full;
+              within = λ whole.
+                  let fine : breaks e ≡ false = if_none (breaks e) (length h + 1) (sym (ap (λ (b : Option ℕ). broken_with b (length h + 1) e) before) ∙ whole) in
+                  let most = most_kept old.geometry room h in
+                  let low = k.within fine in
+                  omega (arith, most, low);
+            },
+          );
+          left = λ still.
+              let fine : breaks e ≡ false = if_none (breaks e) new.calls (sym broken ∙ still) in
+              subst (λ (g : Geometry). next (room_after g room (e ∷ h))) (sym same) (on (room_after old.geometry room h) left fine);
+        }
+
+    pub room_still : (at : ℕ) → old.broken ≡ Some at → e.answer ≡ refused (refusal.Broken at) → new.broken ≡ old.broken → KeepsToRoom next room s0 (e ∷ h) new
+    room_still at is said still =
+        let before : broken_at h ≡ Some at = sym stands.breaks ∙ is in
+        let g = old.geometry in
+        record {
+          kept = subst (λ (g : Geometry). IsRoomLegal g room s0 (e ∷ h)) (sym same) (
+            keeps.kept,
+            record {
+              full = subst (λ (a : Answer). HasRoomCause g (room_after g room h) (stack_after g s0 h) e.request a.reply e.files) (sym said) tt;
+              within = λ whole. Some≢None at (sym (ap (λ (b : Option ℕ). broken_with b (length h + 1) e) before) ∙ whole);
+            },
+          );
+          left = λ none. Some≢None at (sym is ∙ sym still ∙ none);
         }

@@ -1,5 +1,9 @@
 -- The calls at a track, and those that look at all of them, as an engine asks them of its disk.
-use Rattle.std.proofs.Common.{◌≡◌, ℕ, ◌≤◌, false, List, length, take, drop, length-take-le, Option, Some, None, Result, Ok, Err, OnOk, IfOk, IfErr, refl, sym, ◌∙◌, ap, subst, arith}
+use Rattle.cckd_engine.proofs.RoomLemmas.{room_written, room_refused, room_broke}
+use Rattle.cckd_stack.specs.Room.{IfFull, LacksPlace}
+use Rattle.cckd_layer.specs.Justified.{StaysInRoom, AddsInRoom}
+use Rattle.cckd_base.specs.declared.space.Full.{Full}
+use Rattle.std.proofs.Common.{◌≡◌, ℕ, ◌≤◌, false, List, length, take, drop, length-take-le, Option, Some, None, Result, Ok, Err, OnOk, IfOk, IfErr, refl, sym, ◌∙◌, ap, subst, arith, ◌/◌, ◌<◌, Bool, true}
 use Rattle.std.specs.Option.{option_map, option_or}
 use Rattle.std.proofs.Math.Seq.{take-append_seam}
 use Rattle.std.proofs.lemmas.Bool.{false≢true}
@@ -16,7 +20,7 @@ use Rattle.cckd_base.specs.declared.layer_fault.LayerFault.{LayerFault}
 use Rattle.cckd_base.specs.declared.layer_fault.LayerFault.TheVariants as fault
 use Rattle.cckd_base.specs.declared.layer_fault.StackFault.{StackFault}
 use Rattle.cckd_base.specs.declared.layer_fault.StackFault.TheVariants as stack_fault
-use Rattle.cckd_base.specs.Geometry.{track_at, IsGeometry}
+use Rattle.cckd_base.specs.Geometry.{track_at, IsGeometry, track_count}
 use Rattle.cckd_base.specs.Track.{null_track, track_fault, track_value}
 use Rattle.cckd_base.proofs.TrackLemmas.{accepted_length_lem, value_length_lem}
 use Rattle.cckd_shelf.specs.declared.fault.Faults.{Faults}
@@ -24,7 +28,7 @@ use Rattle.cckd_shelf.specs.Seen.{Seen, Tells}
 use Rattle.cckd_script.specs.Text.{FitsCall}
 use Rattle.cckd_layer.specs.Reads.{IsReadRefusal, IsReadFault}
 use Rattle.cckd_layer.specs.Mounted.{LayerState}
-use Rattle.cckd_layer.specs.Writes.{Agrees}
+use Rattle.cckd_layer.specs.Writes.{Agrees, IsSameFile}
 use Rattle.cckd_layer.specs.Loose.{Tied}
 use Rattle.cckd_shelf.specs.World.{World, IsSure}
 use Rattle.std.specs.List.{AllByRecursion}
@@ -32,16 +36,17 @@ use Rattle.cckd_stack.specs.Layers.{Stack, visible, layer_count}
 use Rattle.cckd_stack.specs.Answers.{Request, MayAnswer, refuses, answers, from_outside, plain, refused, no_such_track, first_refusal, refusal_to, pair_by, stack_after_call}
 use Rattle.cckd_stack.specs.History.{reply_breaks}
 use Rattle.cckd_stack.specs.Stops.{hardens}
-use Rattle.cckd_stack.specs.Stacked.{StackState, InLayer, IsPut, Passes, Shows, FitsShown, CountsFault}
+use Rattle.cckd_stack.specs.Stacked.{StackState, InLayer, IsPut, Passes, Shows, FitsShown, CountsFault, AreLayersFrom}
 use Rattle.cckd_stack.specs.Faulty.{bad_tracks}
-use Rattle.cckd_stack.specs.Writes.{AgreeAll, AreTied, AreStackBy, KeepsStackBy, KeepsEach, StoresOnTopBy, StoresEach, stack_now, StopsLie, IsWriteRefused, reply_by, refusal_by, is_broken_by, with_pair_on_top}
-use Rattle.cckd_stack.specs.Called.{CanCall, stack_in}
+use Rattle.cckd_stack.specs.Writes.{AgreeAll, AreTied, AreStackBy, KeepsStackBy, KeepsEach, StoresOnTopBy, StoresEach, stack_now, StopsLie, IsWriteRefused, reply_by, refusal_by, is_broken_by, with_pair_on_top, EndsWith, ChangesLast}
+use Rattle.cckd_stack.specs.Called.{CanCall, stack_in, AgreesAfter}
 use Rattle.cckd_stack.proofs.TopLemmas.{with_own}
 use Rattle.cckd_stack.proofs.TiedLemmas.{tied_sure}
 use Rattle.cckd_stack.proofs.CalledLemmas.{stops_unhardened, call_breaks, write_stack}
 use Rattle.cckd_engine.specs.Calls.{CountsReply, RunStays, asks, answer_in}
 use Rattle.cckd_engine.specs.Frame.{Spares, IsLower}
-use Rattle.cckd_engine.specs.Performs.{Performs, said_to_read, said_to_display, said_to_check}
+use Rattle.cckd_engine.specs.Performs.{Performs, said_to_read, said_to_display, said_to_check, KeepsRooms}
+use Rattle.cckd_engine.specs.Closing.{ClosesFiles}
 use Rattle.cckd_engine.proofs.CallLemmas.{agrees_now, agrees_then, fault_fits, fault_counts, done_counts, done_fits, has}
 
 -- ---- the track at an address
@@ -132,6 +137,18 @@ pub read_calm : (at : Addr) (result : Result ℕ StackFault) → hardens (call.R
 read_calm at (Ok len) = refl
 read_calm at (Err why) = refl
 
+-- no call that only reads wants room
+pub read_roomy : (result : Result ℕ StackFault) → IfErr result (InLayer IsReadFault) → (P : Full → Type 0) → IfFull (said_to_read result) P
+read_roomy (Ok len) why P = tt
+read_roomy (Err (stack_fault.Layer (fault.Track found))) why P = tt
+read_roomy (Err (stack_fault.Layer (fault.Full full))) why P = absurd why
+read_roomy (Err (stack_fault.Layer fault.ReadFault)) why P = tt
+read_roomy (Err (stack_fault.Layer fault.WriteFault)) why P = tt
+read_roomy (Err (stack_fault.Layer fault.SyncFault)) why P = tt
+read_roomy (Err (stack_fault.TooMany have)) why P = tt
+read_roomy (Err stack_fault.OnlyBase) why P = tt
+read_roomy (Err stack_fault.Memory) why P = tt
+
 pub read_counts : (result : Result ℕ StackFault) (old new : Faults) → CountsFault result old new → CountsReply (said_to_read result) old new
 read_counts (Ok len) old new h = h
 read_counts (Err why) old new h = fault_counts why old new h
@@ -169,6 +186,17 @@ only_read why is = subst (InLayer IsReadFault) (sym is) tt
 pub display_fits : (n : ℕ) (result : Result (ℕ × List ℕ) StackFault) → IfOk result FitsShown → IfErr result (λ why. why ≡ stack_fault.Layer fault.ReadFault) → FitsCall call.Display n (said_to_display result)
 display_fits n (Ok shown) fits why = (refl, fits.few, fits.rest)
 display_fits n (Err fault) fits why = fault_fits IsReadFault fault (only_read fault why)
+
+only_reads_roomy : (why : StackFault) → why ≡ stack_fault.Layer fault.ReadFault → (P : Full → Type 0) → IfFull (reply.Refused (refusal_by why)) P
+only_reads_roomy why is P = subst (λ (w : StackFault). IfFull (reply.Refused (refusal_by w)) P) (sym is) tt
+
+pub display_roomy : (result : Result (ℕ × List ℕ) StackFault) → IfErr result (λ why. why ≡ stack_fault.Layer fault.ReadFault) → (P : Full → Type 0) → IfFull (said_to_display result) P
+display_roomy (Ok shown) why P = tt
+display_roomy (Err fault) why P = only_reads_roomy fault why P
+
+pub check_roomy : (level : ℕ) (result : Result ℕ StackFault) → IfErr result (λ why. why ≡ stack_fault.Layer fault.ReadFault) → (P : Full → Type 0) → IfFull (said_to_check level result) P
+check_roomy level (Ok bad) why P = tt
+check_roomy level (Err fault) why P = only_reads_roomy fault why P
 
 pub display_calm : (result : Result (ℕ × List ℕ) StackFault) → hardens call.Display (said_to_display result) ≡ false
 display_calm (Ok shown) = refl
@@ -253,6 +281,18 @@ keeps_by : (P Q : Type 0) (result : Result (Unit {0}) StackFault) → IfErr resu
 keeps_by P Q (Ok done) h f = tt
 keeps_by P Q (Err why) h f = f h
 
+-- a layer lacks a place where the call is refused for want of room
+lacks_full : (after : Seen) (t : ℕ) (given : List ℕ) (layers : List LayerState) (why : StackFault) (full : Full) → refusal_by why ≡ refusal.Full full → InLayer (λ f. EndsWith (λ layer. LacksPlace null_track layer after t (track_value given) f) layers) why
+    → EndsWith (λ layer. LacksPlace null_track layer after t (track_value given) (fault.Full full)) layers
+lacks_full after t given layers (stack_fault.Layer (fault.Full full)) other is h = subst (λ (k : Full). EndsWith (λ layer. LacksPlace null_track layer after t (track_value given) (fault.Full k)) layers) (let e : full ≡ other = cc is in e) h
+lacks_full after t given layers (stack_fault.Layer (fault.Track found)) other is h = absurd (cc is)
+lacks_full after t given layers (stack_fault.Layer fault.ReadFault) other is h = absurd (cc is)
+lacks_full after t given layers (stack_fault.Layer fault.WriteFault) other is h = absurd (cc is)
+lacks_full after t given layers (stack_fault.Layer fault.SyncFault) other is h = absurd (cc is)
+lacks_full after t given layers (stack_fault.TooMany have) other is h = absurd h
+lacks_full after t given layers stack_fault.OnlyBase other is h = absurd h
+lacks_full after t given layers stack_fault.Memory other is h = absurd h
+
 module _ (old new : StackState) (before after : Seen) (can : CanCall old before) (back : Tells after → Tells before)
     (result : Result (Unit {0}) StackFault) (geometry : new.geometry ≡ old.geometry) (broken : new.broken ≡ is_broken_by result)
     (lies : StopsLie null_track old.geometry old.layers before after) (run : Tells before → RunStays before.world after.world)
@@ -264,8 +304,15 @@ module _ (old new : StackState) (before after : Seen) (can : CanCall old before)
         → (new.broken ≡ false → IfErr result (λ why. KeepsEach null_track old.layers new.layers before after))
         → IfErr result (InLayer (IsWriteRefused null_track (track_fault old.geometry t given) old.layers new.layers before after t (track_value given)))
         → CountsFault result before.faults after.faults
+        → t < track_count old.geometry → AreLayersFrom old.geometry 0 old.layers → ChangesLast IsSameFile old.layers new.layers
+        → OnOk result (ChangesLast (AddsInRoom (t / 256)) old.layers new.layers)
+        → (new.broken ≡ false → IfErr result (λ why. ChangesLast StaysInRoom old.layers new.layers))
+        → (Tells before → IsSure before.world → IfErr result (InLayer (λ why. EndsWith (λ layer. LacksPlace null_track layer after t (track_value given) why) new.layers)))
+        → ((reply_breaks (call.Write at) (reply_by (reply.Written (length given)) result) ≡ false → new.broken ≡ false)
+        → (reply_breaks (call.Write at) (reply_by (reply.Written (length given)) result) ≡ false → Tells before → AgreesAfter old before.world.events → AgreesAfter new after.world.events)
+        → ClosesFiles (asks (call.Write at) given) (plain (reply_by (reply.Written (length given)) result)) old new before after)
         → Performs (asks (call.Write at) given) (plain (reply_by (reply.Written (length given)) result)) old new before after
-    write_does at t found given stores checked map refusal counts =
+    write_does at t found given stores checked map refusal counts low layers last grows stays lacks closes =
         let whole : reply_breaks (call.Write at) (reply_by (reply.Written (length given)) result) ≡ false → new.broken ≡ false =
         λ fine. broken ∙ sym (call_breaks (Unit {0}) (call.Write at) (reply.Written (length given)) result refl refl) ∙ fine in
         let said = reply_by (reply.Written (length given)) result in
@@ -293,16 +340,30 @@ module _ (old new : StackState) (before after : Seen) (can : CanCall old before)
           };
           geometry = geometry;
           agrees = λ fine told agree. agrees_then new after.world (agreed (whole fine) told (agrees_now old before.world agree)).agree;
+          closes = closes whole (λ fine told agree. agrees_then new after.world (agreed (whole fine) told (agrees_now old before.world agree)).agree);
           stops = λ was told agree is hardened.
               let h = has old before was told agree is hardened in
               stops_unhardened old.geometry was (asks (call.Write at) given) (reply_by (reply.Written (length given)) result) before.world.events after.world.events
               (lies was h) (write_calm at (length given) result);
           quiet = λ unchanged silent. absurd (false≢true (sym silent));
           spares = spares;
+          room = λ told sure. write_rooms result broken grows stays (lacks told sure) (λ sound. (tied sound told (can.tied told sure)).agree);
           counts = done_counts (Unit {0}) (reply.Written (length given)) result before.faults after.faults refl counts;
           run = run;
         }
       where
+        write_rooms : (made : Result (Unit {0}) StackFault) → new.broken ≡ is_broken_by made → OnOk made (ChangesLast (AddsInRoom (t / 256)) old.layers new.layers)
+            → (new.broken ≡ false → IfErr made (λ why. ChangesLast StaysInRoom old.layers new.layers))
+            → IfErr made (InLayer (λ why. EndsWith (λ layer. LacksPlace null_track layer after t (track_value given) why) new.layers)) → (new.broken ≡ false → AreTied new.layers after.world)
+            → KeepsRooms (asks (call.Write at) given) (reply_by (reply.Written (length given)) made) old new before after
+        write_rooms (Ok done) broken grows stays lacks tied =
+            room_written at t given old new before after found low layers last (reply.Written (length given)) refl refl (λ P. tt) grows (tied broken)
+        write_rooms (Err why) broken grows stays lacks tied = by (is_broken_by {A = Unit {0}} (Err why)) refl
+          where
+            by : (b : Bool) → is_broken_by {A = Unit {0}} (Err why) ≡ b → KeepsRooms (asks (call.Write at) given) (reply.Refused (refusal_by why)) old new before after
+            by false whole = room_refused at t given old new before after found low layers last (refusal_by why) (stays (broken ∙ whole)) (tied (broken ∙ whole)) (λ full is. lacks_full after t given new.layers why full is lacks)
+            by true breaks = room_broke (asks (call.Write at) given) why old new before after breaks
+
         write_fits : (at : Addr) (given : List ℕ) (result : Result (Unit {0}) StackFault) (P : LayerFault → Type 0) → IfErr result (InLayer P)
             → FitsCall (call.Write at) (length given) (reply_by (reply.Written (length given)) result)
         write_fits at given result P why = done_fits (Unit {0}) P (call.Write at) (length given) (reply.Written (length given)) result (refl, refl) why

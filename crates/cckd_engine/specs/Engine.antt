@@ -1,4 +1,5 @@
 -- What an engine keeps, and the history of calls that it stands for.
+use Rattle.cckd_stack.specs.Room.{Room, IsRoomLegal, room_after}
 use Rattle.std.specs.Prelude.{◌≡◌, ℕ, ◌+◌, ◌-◌, ◌^◌, min, Bool, true, false, List, [], ◌∷◌, length, Option, None}
 use Rattle.cckd_base.specs.declared.geometry.Geometry.{Geometry}
 use Rattle.cckd_base.specs.declared.reply.Reply.{Reply}
@@ -99,3 +100,9 @@ TellsStops agrees broken events = broken ≡ None → agrees events
 pub record KeepsHistory (g : Geometry) (s0 : Stack) (h : History) (e : Entry) (old new : List Event) : Type 0 where
   pub each : AtEach old new (EachOpens g (SurvivesWithin g s0 h e.request))
   pub after : EachOpens g (Survives g s0 (e ∷ h)) new
+
+-- An engine keeps to the room that it began with: what is promised of each entry of the history was kept, and while no call broke it,
+-- its disk has the room that the history leaves.
+pub record KeepsToRoom (has : Room → Type 0) (room : Room) (s0 : Stack) (h : History) (s : Standing) : Type 0 where
+  pub kept : IsRoomLegal s.geometry room s0 h
+  pub left : s.broken ≡ None → has (room_after s.geometry room h)

@@ -4,3 +4,4 @@ pub mod Engine
 pub mod Lines
 pub mod Performs
 pub mod Mounting
+pub mod Closing

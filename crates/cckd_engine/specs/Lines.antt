@@ -5,7 +5,7 @@ use Rattle.cckd_base.specs.declared.reply.Reply.{Reply}
 use Rattle.cckd_shelf.specs.declared.fault.Faults.{Faults}
 use Rattle.cckd_shelf.specs.declared.fault.Kind.TheVariants.{Puts}
 use Rattle.cckd_shelf.specs.Faults.{Raises}
-use Rattle.cckd_shelf.specs.Events.{Event, output_of}
+use Rattle.cckd_shelf.specs.Events.{Event, output_of, file_now}
 use Rattle.cckd_shelf.specs.Outcomes.{AtEach}
 use Rattle.cckd_script.specs.Text.{reply_line}
 use Rattle.cckd_stack.specs.Layers.{Stack}
@@ -74,3 +74,21 @@ pub record CountsServed (said : Reply) (was_mute mute : Bool) (old new : Faults)
   pub between : Faults
   pub told : CountsReply said old between
   pub cut : CountsCut was_mute mute between new
+
+-- these events begin with others
+pub record GrowsFrom (old new : List Event) : Type 0 where
+  pub newer : List Event
+  pub grown : new ≡ newer ++ old
+
+-- The files of an entry are those of a moment between two, at which so many lines were whole.
+pub record WasThen (before : List ℕ) (n : ℕ) (e : Entry) (old mid new : List Event) : Type 0 where
+  pub since : GrowsFrom old mid
+  pub until : GrowsFrom mid new
+  pub lines : lines_since before mid ≡ n
+  pub files : e.files ≡ file_now mid
+
+-- So it is of the entry of each of these lines, one moment behind the other: at each as many lines are whole as stand before its own.
+abbrev pub AreFilesThen : List ℕ → ℕ → List Line → List Event → List Event → Type 0
+AreFilesThen before n [] old new = Unit {0}
+AreFilesThen before n (of_text text ∷ rest) old new = AreFilesThen before (n + 1) rest old new
+AreFilesThen before n (of_call e ∷ rest) old new = (mid : List Event) × WasThen before n e old mid new × AreFilesThen before (n + 1) rest mid new

@@ -1,4 +1,6 @@
 -- What a call makes of a stack on the files of its slots.
+use Rattle.cckd_stack.specs.Room.{Room, HasRoom, KeepsRoom, room_after_call}
+use Rattle.cckd_shelf.specs.Events.{file_now}
 use Rattle.std.specs.Prelude.{ℕ, ◌≡◌, false, List, length, Result, Ok, Err}
 use Rattle.cckd_base.specs.declared.reply.Reply.{Reply}
 use Rattle.cckd_base.specs.declared.reply.Reply.TheVariants as reply
@@ -13,11 +15,18 @@ use Rattle.cckd_stack.specs.Stacked.{StackState}
 use Rattle.cckd_stack.specs.Writes.{AreUnchanged, refusal_by}
 use Rattle.cckd_stack.specs.Called.{CanCall, AgreesAfter, stack_in}
 use Rattle.cckd_engine.specs.Frame.{Spares, IsLower}
+use Rattle.cckd_engine.specs.Closing.{ClosesFiles}
 use Rattle.cckd_engine.specs.Calls.{CountsReply, KeepsRun, writes}
+
+-- What a call makes of the room in the last file: it is kept on, and the call keeps it.
+pub record KeepsRooms (r : Request) (said : Reply) (old new : StackState) (before after : Seen) : Type 0 where
+  pub next : (room : Room) → HasRoom old room → reply_breaks r.asked said ≡ false → HasRoom new (room_after_call old.geometry room r said)
+  pub kept : (room : Room) → HasRoom old room → KeepsRoom old.geometry room (stack_in old before.world.events) r said (file_now after.world.events)
 
 -- A call does what is asked of a disk, where no operation had failed half way: it is answered as the layered disk may answer, and
 -- leaves the stack that the layered disk has after it. Unless it breaks, none failed so, and the stack can make calls again. At each
--- operation a stop leaves what it may leave. In any case nothing is done to the files of other slots than that of the last layer.
+-- operation a stop leaves what it may leave. In any case nothing is done to the files of other slots than that of the last layer. Behind
+-- the reply `closed` the files that were changed are closed images.
 pub record Performs (r : Request) (said : Answer) (old new : StackState) (before after : Seen) : Type 0 where
   pub answers : Tells before → IsSure before.world → MayAnswer old.geometry (stack_in old before.world.events) r said
   pub fits : FitsCall r.asked (length r.given) said.reply
@@ -31,6 +40,8 @@ pub record Performs (r : Request) (said : Answer) (old new : StackState) (before
       → IsHardened old.geometry was before.world.events → KeepsStops old.geometry was r said.reply before.world.events after.world.events
   pub quiet : AreUnchanged old.layers → writes r.asked ≡ false → AreUnchanged new.layers × Stays before after
   pub spares : Spares (IsLower old) (IsLower new) before after
+  pub room : Tells before → IsSure before.world → KeepsRooms r said.reply old new before after
+  pub closes : ClosesFiles r said old new before after
   pub counts : CountsReply said.reply before.faults after.faults
   pub run : KeepsRun before after
 

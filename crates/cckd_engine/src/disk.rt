@@ -1,7 +1,8 @@
 //! A stack of layers, as an engine uses it.
+ghost use Rattle.cckd_stack.specs.Room.{Room, KeepsRoom, room_after_call};
 ghost use Rattle.std.specs.Prelude.{◌≡◌, ◌∷◌, ℕ, List, length, false};
 ghost use Rattle.cckd_base.specs.declared.geometry.Geometry.{Geometry as Shape};
-ghost use Rattle.cckd_shelf.specs.Events.{Event, Put};
+ghost use Rattle.cckd_shelf.specs.Events.{Event, Put, file_now};
 ghost use Rattle.cckd_shelf.specs.Seen.{Seen, seen, Tells, Stays};
 ghost use Rattle.cckd_shelf.specs.World.{IsSure};
 ghost use Rattle.cckd_shelf.specs.Frame.{PutsSome};
@@ -12,6 +13,7 @@ ghost use Rattle.cckd_stack.specs.Answers.{MayAnswer, stack_after_call};
 ghost use Rattle.cckd_stack.specs.History.{reply_breaks};
 ghost use Rattle.cckd_stack.specs.Moments.{Hardening, IsHardened, KeepsStops};
 ghost use Rattle.cckd_engine.specs.Frame.{Spares};
+ghost use Rattle.cckd_engine.specs.Closing.{TellsChanges};
 ghost use Rattle.cckd_engine.specs.Calls.{CanAsk, KeepsRun, asks, answer_in, CountsReply, writes};
 
 use cckd_base::{Call, Reply};
@@ -35,8 +37,14 @@ pub trait Disk {
     /// That nothing was written to it since it was mounted or closed.
     ghost unchanged: { Self → Type 0 };
 
+    /// That its marks say what was done to the files since earlier events.
+    ghost marks: { Self → List Event → List Event → Type 0 };
+
     /// That its calls leave the file of a slot alone.
     ghost spares: { Self → ℕ → Type 0 };
+
+    /// That this room is in its last file.
+    ghost has_room: { Self → Room → Type 0 };
 
     /// Makes a call. Bytes that it gives are `input`, and those that it is answered go to the front of `out`.
     fn perform<T: Stage>(
@@ -78,6 +86,18 @@ pub trait Disk {
         // Whatever the reply is, and whatever failed before, nothing is done to the files that it leaves alone, and it leaves them alone on.
         ensures spares { Spares (spares self.old) (spares self.new) (seen T.Shows stage.old) (seen T.Shows stage.new) }
 
+        // A refusal for want of room has its cause, the last file is within its bounds, and the room is known on.
+        ensures room { (room : Room) → Tells (seen T.Shows stage.old) → IsSure (seen T.Shows stage.old).world → has_room self.old room
+            → KeepsRoom (geometry self.old) room (stack self.old (seen T.Shows stage.old).world.events) (asks call input.now) result (file_now (seen T.Shows stage.new).world.events) }
+        ensures room_on { (room : Room) → Tells (seen T.Shows stage.old) → IsSure (seen T.Shows stage.old).world → has_room self.old room
+            → reply_breaks call result ≡ false → has_room self.new (room_after_call (geometry self.old) room (asks call input.now) result) }
+
+        // Where it was told what was done to the files since earlier events, it is told again, unless the call breaks; and behind the reply
+        // `closed` each file was left or is that of a closed image.
+        ensures closes { (base : List Event) → Tells (seen T.Shows stage.old) → agrees self.old (seen T.Shows stage.old).world.events
+            → marks self.old base (seen T.Shows stage.old).world.events
+            → TellsChanges (marks self.new) (reply_breaks call result) result base (seen T.Shows stage.new).world.events }
+
         // A fault that was met is told, and no other count rose; nothing is put and nothing is taken.
         ensures counts { CountsReply result (seen T.Shows stage.old).faults (seen T.Shows stage.new).faults }
         ensures run { KeepsRun (seen T.Shows stage.old) (seen T.Shows stage.new) };
@@ -95,4 +115,7 @@ pub trait Disk {
 
     ghost agrees_at_put: { (disk : Self) (bytes : List ℕ) (events : List Event)
         → agrees disk events → agrees disk (Put bytes ∷ events) };
+
+    ghost marks_at_put: { (disk : Self) (bytes : List ℕ) (base events : List Event)
+        → marks disk base events → marks disk base (Put bytes ∷ events) };
 }

@@ -1,7 +1,8 @@
 //! The engine: a stage, the stack of layers on it, and the numbers of its calls.
-ghost use Rattle.std.specs.Prelude.{ℕ, Option, ◌≡◌, ◌<◌, ◌≤◌, ◌+◌, ◌-◌, ◌^◌, ◌∷◌, ◌++◌, true, false, None, length, not, IfOk, OnOk, OnErr, IsNone, IsSome, IfSome};
+ghost use Rattle.cckd_stack.specs.Room.{Room};
+ghost use Rattle.std.specs.Prelude.{ℕ, Option, ◌≡◌, ◌<◌, ◌≤◌, ◌+◌, ◌-◌, ◌^◌, ◌∷◌, ◌++◌, true, false, None, length, not, IfOk, OnOk, OnErr, IsNone, IsSome, IfSome, [], List};
 ghost use Rattle.cckd_base.specs.declared.geometry.Geometry.{Geometry as Shape};
-ghost use Rattle.cckd_shelf.specs.Events.{output_of};
+ghost use Rattle.cckd_shelf.specs.Events.{Event, output_of};
 ghost use Rattle.cckd_shelf.specs.declared.fault.Kind.TheVariants.{Puts, Takes};
 ghost use Rattle.cckd_shelf.specs.World.{after_take};
 ghost use Rattle.cckd_shelf.specs.Seen.{seen, Tells, Stays, Makes, Fails, AreNext};
@@ -13,9 +14,10 @@ ghost use Rattle.cckd_stack.specs.Stops.{Survives};
 ghost use Rattle.cckd_stack.specs.Moments.{EachOpens};
 ghost use Rattle.cckd_engine.specs.Calls.{CanAsk, CountsReply, KeepsRun, asks, answer_in, writes};
 ghost use Rattle.cckd_engine.specs.Frame.{Spares};
-ghost use Rattle.cckd_engine.specs.Engine.{entry_of, no_tally, standing, IsWithStage, Stands, Runs, TellsStops, KeepsHistory};
+ghost use Rattle.cckd_engine.specs.Engine.{entry_of, no_tally, standing, IsWithStage, Stands, Runs, TellsStops, KeepsHistory, KeepsToRoom};
+ghost use Rattle.cckd_engine.specs.Closing.{TellsSince};
 ghost use Rattle.cckd_lines.specs.Lines.{IsPlace, IsAtEnd, IsNext, LiesIn, IsShort, Advances, BreaksOff, OnlyTakes, held, text_of, allowance};
-ghost use Rattle.cckd_engine.specs.Lines.{KeepsLine, of_call, of_text, CountsServed, CountsCut, HasFront};
+ghost use Rattle.cckd_engine.specs.Lines.{KeepsLine, of_call, of_text, CountsServed, CountsCut, HasFront, AreFilesThen};
 
 use crate::disk::Disk;
 use crate::tally::Tally;
@@ -92,6 +94,10 @@ impl<T: Stage, D: Disk> Engine<T, D> {
             → Stands s0 h (standing T.Shows D.Disk self.old)
             → Stands s0 (entry_of session (asks call input.now) (answer_in result out.new) (seen T.Shows self.new.stage).world.events ∷ h)
             (standing T.Shows D.Disk self.new) }
+        ensures room { (session : Option ℕ) (s0 : Stack) (h : History) (room : Room) → Tells (seen T.Shows self.old.stage)
+            → Stands s0 h (standing T.Shows D.Disk self.old) → KeepsToRoom (D.has_room self.old.disk) room s0 h (standing T.Shows D.Disk self.old)
+            → KeepsToRoom (D.has_room self.new.disk) room s0
+            (entry_of session (asks call input.now) (answer_in result out.new) (seen T.Shows self.new.stage).world.events ∷ h) (standing T.Shows D.Disk self.new) }
         ensures stops { (session : Option ℕ) (s0 : Stack) (h : History) → Tells (seen T.Shows self.old.stage)
             → Stands s0 h (standing T.Shows D.Disk self.old)
             → TellsStops (D.agrees self.old.disk) self.old.broken (seen T.Shows self.old.stage).world.events
@@ -103,6 +109,12 @@ impl<T: Stage, D: Disk> Engine<T, D> {
         ensures agrees { Tells (seen T.Shows self.old.stage)
             → TellsStops (D.agrees self.old.disk) self.old.broken (seen T.Shows self.old.stage).world.events
             → TellsStops (D.agrees self.new.disk) self.new.broken (seen T.Shows self.new.stage).world.events }
+        ensures closes { (session : Option ℕ) (base : List Event) (h : History) → Tells (seen T.Shows self.old.stage)
+            → TellsStops (D.agrees self.old.disk) self.old.broken (seen T.Shows self.old.stage).world.events
+            → TellsSince (D.marks self.old.disk) self.old.broken base h (seen T.Shows self.old.stage).world.events
+            → TellsSince (D.marks self.new.disk) self.new.broken base
+            (entry_of session (asks call input.now) (answer_in result out.new) (seen T.Shows self.new.stage).world.events ∷ h)
+            (seen T.Shows self.new.stage).world.events }
         ensures geometry { D.geometry self.new.disk ≡ D.geometry self.old.disk }
         ensures calls { self.new.calls ≡ self.old.calls + 1 }
         ensures mute { self.new.mute ≡ self.old.mute }
@@ -146,6 +158,10 @@ impl<T: Stage, D: Disk> Engine<T, D> {
             → Stands s0 h (standing T.Shows D.Disk self.old)
             → Stands s0 (entry_of who (asks call input.now) (answer_in result.reply out.new) (seen T.Shows self.new.stage).world.events ∷ h)
             (standing T.Shows D.Disk self.new) }
+        ensures room { (s0 : Stack) (h : History) (room : Room) → Tells (seen T.Shows self.old.stage)
+            → Stands s0 h (standing T.Shows D.Disk self.old) → KeepsToRoom (D.has_room self.old.disk) room s0 h (standing T.Shows D.Disk self.old)
+            → KeepsToRoom (D.has_room self.new.disk) room s0
+            (entry_of who (asks call input.now) (answer_in result.reply out.new) (seen T.Shows self.new.stage).world.events ∷ h) (standing T.Shows D.Disk self.new) }
         ensures stops { (s0 : Stack) (h : History) → Tells (seen T.Shows self.old.stage)
             → Stands s0 h (standing T.Shows D.Disk self.old)
             → TellsStops (D.agrees self.old.disk) self.old.broken (seen T.Shows self.old.stage).world.events
@@ -154,10 +170,19 @@ impl<T: Stage, D: Disk> Engine<T, D> {
             (of_call (entry_of who (asks call input.now) (answer_in result.reply out.new) (seen T.Shows self.new.stage).world.events))
             (output_of (seen T.Shows self.old.stage).world.events)
             (seen T.Shows self.old.stage).world.events (seen T.Shows self.new.stage).world.events }
+        ensures files { Tells (seen T.Shows self.old.stage) → AreFilesThen (output_of (seen T.Shows self.old.stage).world.events) 0
+            (of_call (entry_of who (asks call input.now) (answer_in result.reply out.new) (seen T.Shows self.new.stage).world.events) ∷ [])
+            (seen T.Shows self.old.stage).world.events (seen T.Shows self.new.stage).world.events }
         ensures runs { Runs (D.tied self.new.disk) self.new.broken (seen T.Shows self.new.stage) }
         ensures agrees { Tells (seen T.Shows self.old.stage)
             → TellsStops (D.agrees self.old.disk) self.old.broken (seen T.Shows self.old.stage).world.events
             → TellsStops (D.agrees self.new.disk) self.new.broken (seen T.Shows self.new.stage).world.events }
+        ensures closes { (base : List Event) (h : History) → Tells (seen T.Shows self.old.stage)
+            → TellsStops (D.agrees self.old.disk) self.old.broken (seen T.Shows self.old.stage).world.events
+            → TellsSince (D.marks self.old.disk) self.old.broken base h (seen T.Shows self.old.stage).world.events
+            → TellsSince (D.marks self.new.disk) self.new.broken base
+            (entry_of who (asks call input.now) (answer_in result.reply out.new) (seen T.Shows self.new.stage).world.events ∷ h)
+            (seen T.Shows self.new.stage).world.events }
         ensures geometry { D.geometry self.new.disk ≡ D.geometry self.old.disk }
         ensures calls { self.new.calls ≡ self.old.calls + 1 }
         ensures fits { FitsCall call (length input.now) result.reply }
@@ -219,6 +244,9 @@ impl<T: Stage, D: Disk> Engine<T, D> {
         ensures agrees { Tells (seen T.Shows self.old.stage)
             → TellsStops (D.agrees self.old.disk) self.old.broken (seen T.Shows self.old.stage).world.events
             → TellsStops (D.agrees self.new.disk) self.new.broken (seen T.Shows self.new.stage).world.events }
+        ensures closes { (base : List Event) (h : History) → Tells (seen T.Shows self.old.stage)
+            → TellsSince (D.marks self.old.disk) self.old.broken base h (seen T.Shows self.old.stage).world.events
+            → TellsSince (D.marks self.new.disk) self.new.broken base h (seen T.Shows self.new.stage).world.events }
     {
         put_all(&mut self.stage, text)
     }

@@ -1,4 +1,5 @@
 //! The mounting of an engine: from the files of the slots to one that can make calls.
+ghost use Rattle.cckd_stack.specs.Room.{HasRoom, first_room, last_file};
 ghost use Rattle.std.specs.Prelude.{◌≡◌, ◌-◌, ◌≤◌, ℕ, [], length, IfOk, IfErr};
 ghost use Rattle.cckd_shelf.specs.Seen.{seen, Tells, Makes};
 ghost use Rattle.cckd_stack.specs.Layers.{Stack as Layered};
@@ -11,6 +12,7 @@ ghost use Rattle.cckd_stack.specs.Writes.{AreUnchanged};
 ghost use Rattle.cckd_stack.specs.Called.{AreSnug, StayAbsent, CanCall, AgreesAfter};
 ghost use Rattle.cckd_engine.specs.Engine.{Stands, Runs, TellsStops, IsNew, standing};
 ghost use Rattle.cckd_engine.specs.Frame.{IsLower};
+ghost use Rattle.cckd_stack.specs.Marking.{MarksSince};
 ghost use Rattle.cckd_engine.specs.Mounting.{CountsMount};
 
 use crate::disk::Disk;
@@ -41,9 +43,13 @@ impl<T: Stage> Engine<T, Stack<Ckd>> {
         ensures unchanged { IfOk result (λ engine. AreUnchanged engine.disk.layers) }
         ensures few { IfOk result (λ engine. (1 ≤ length engine.disk.layers) × (length engine.disk.layers ≤ 9)) }
         ensures spares { IfOk result (λ engine. (slot : ℕ) → (length engine.disk.layers - 1 ≡ slot → ⊥) → IsLower engine.disk slot) }
+        ensures room { OfFiles (λ files. (s0 : Layered) → IfOk result (λ engine. Opens engine.disk.geometry files s0
+            → HasRoom engine.disk (first_room limit (length (last_file s0 files))))) (seen T.Shows stage) }
         ensures runs { IfOk result (λ engine. Runs (CanCall engine.disk) engine.broken (seen T.Shows engine.stage)) }
         ensures agrees { OfFiles (λ files. AreSnug files → IfOk result (λ engine.
             TellsStops (AgreesAfter engine.disk) engine.broken (seen T.Shows engine.stage).world.events)) (seen T.Shows stage) }
+        ensures marks { OfFiles (λ files. AreSnug files → IfOk result (λ engine.
+            MarksSince engine.disk (seen T.Shows engine.stage).world.events (seen T.Shows engine.stage).world.events)) (seen T.Shows stage) }
         ensures stops { OfFiles (λ files. AreSnug files → StayAbsent (seen T.Shows stage).world → (s0 : Layered) → IfOk result (λ engine. Opens engine.disk.geometry files s0
             → EachOpens engine.disk.geometry (Survives engine.disk.geometry s0 []) (seen T.Shows engine.stage).world.events)) (seen T.Shows stage) }
 

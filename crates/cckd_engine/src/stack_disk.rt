@@ -198,8 +198,11 @@ impl Disk for Stack<Ckd> {
     ghost use Rattle.std.proofs.Common.{sym};
     ghost use Rattle.cckd_stack.specs.Called.{CanCall, AgreesAfter, stack_in};
     ghost use Rattle.cckd_stack.specs.Writes.{AreUnchanged};
+    ghost use Rattle.cckd_stack.specs.Room.{HasRoom};
     ghost use Rattle.cckd_engine.specs.Frame.{IsLower};
+    ghost use Rattle.cckd_stack.specs.Marking.{MarksSince};
     ghost use Rattle.cckd_stack.proofs.TiedLemmas.{can_call_puts, can_call_still, agrees_after_put};
+    ghost use Rattle.cckd_stack.proofs.MarkingLemmas.{marks_since_put};
 
     ghost geometry = { λ s. s.geometry };
 
@@ -211,7 +214,11 @@ impl Disk for Stack<Ckd> {
 
     ghost unchanged = { λ s. AreUnchanged s.layers };
 
+    ghost marks = { MarksSince };
+
     ghost spares = { IsLower };
+
+    ghost has_room = { HasRoom };
 
     fn perform<T: Stage>(
         &mut self,
@@ -230,4 +237,6 @@ impl Disk for Stack<Ckd> {
     ghost tied_at_takes = { λ s now next same takes. can_call_still s now next same (λ told. sym (takes told).events) };
 
     ghost agrees_at_put = { agrees_after_put };
+
+    ghost marks_at_put = { marks_since_put };
 }

@@ -1,6 +1,6 @@
 -- Places that are claimed, and new tables that are staged: a layer agrees with its file again.
-use Rattle.std.proofs.Common.{◌≡◌, ◌⊎◌, ◌+◌, ◌%◌, ◌<◌, ◌≤◌, ℕ, List, ◌∷◌, length, slice_index, false, Option, Some, None, Result, Ok, Err, IfOk, OnOk, IsErr, IsSome, ◌↔◌, max, refl, sym, ◌∙◌, ap, subst, inl, inr, arith}
-use Rattle.std.specs.Option.{unwrap_or}
+use Rattle.std.proofs.Common.{◌≡◌, ◌⊎◌, ◌+◌, ◌%◌, ◌<◌, ◌≤◌, ℕ, List, ◌∷◌, length, slice_index, false, Option, Some, None, Result, Ok, Err, IfOk, OnOk, IsErr, IsSome, ◌↔◌, max, refl, sym, ◌∙◌, ap, subst, inl, inr, arith, Bool, true, IfSome, []}
+use Rattle.std.specs.Option.{unwrap_or, is_some}
 use Rattle.std.proofs.lemmas.Bool.{cases_lt}
 use Rattle.cckd_shelf.specs.World.{file_of}
 use Rattle.cckd_shelf.specs.Seen.{Seen}
@@ -17,21 +17,21 @@ use Rattle.cckd_space.specs.Plan.{Plan, Becomes, IsSound, place_of, with_reserve
 use Rattle.cckd_tables.specs.Staging.{Stages, IsStaged, entry_for, place_for}
 use Rattle.cckd_tables.specs.Stages.{with_entry, with_word}
 use Rattle.cckd_tables.specs.Tables.{TableView, AreOf}
-use Rattle.cckd_tables.specs.Looking.{with_stages, word_of}
+use Rattle.cckd_tables.specs.Looking.{with_stages, word_of, HasAlignedTable}
 use Rattle.cckd_tables.proofs.StageLemmas.{entry_here, entry_other, place_here, place_other}
 use Rattle.cckd_layer.specs.Held.{NullBytes}
 use Rattle.cckd_space.specs.declared.piece.Piece.{Piece}
 use Rattle.cckd_space.specs.Pieces.{IsLaid}
-use Rattle.cckd_layer.specs.Current.{claim, IsInUse, IsReplaced, IsAmong, IsPlaced, Accounts, Current}
+use Rattle.cckd_layer.specs.Current.{claim, IsInUse, IsReplaced, IsAmong, IsPlaced, Accounts, Current, NamesAligned}
 use Rattle.cckd_layer.specs.Puts.{IsReserved}
-use Rattle.cckd_layer.specs.Acts.{StagesEntry, StagesWord, left_at, given_back, GivesBack, MayGiveBack}
+use Rattle.cckd_layer.specs.Acts.{StagesEntry, StagesWord, left_at, given_back, GivesBack, MayGiveBack, EndsBefore}
 use Rattle.cckd_layer.specs.Stands.{LayerView, Stands}
 use Rattle.cckd_layer.specs.Mounted.{LayerState}
-use Rattle.cckd_layer.specs.Writes.{AgreesWith, AgreesAgainWith, KeepsMapWith, CanStage, StoresIn, FreesOld, entry_now, claimed_view}
+use Rattle.cckd_layer.specs.Writes.{AgreesWith, AgreesAgainWith, KeepsMapWith, CanStage, StoresIn, FreesOld, entry_now, claimed_view, IsGranted, table_need}
 use Rattle.cckd_layer.proofs.StandLemmas.{stands_placed, stands_sits}
 use Rattle.cckd_layer.proofs.StagedLemmas.{Takes, stands_by, stands_word, stands_staged, stands_again, stands_again_none, map_word, map_staged}
 use Rattle.cckd_layer.proofs.AccountLemmas.{placed_at, accounts_same, accounts_given, accounts_cut}
-use Rattle.cckd_layer.proofs.SpanLemmas.{KeepsHeld, keeps_twice, held_given, held_cut, spans_given}
+use Rattle.cckd_layer.proofs.SpanLemmas.{KeepsHeld, keeps_twice, held_given, held_cut, spans_given, placed_before}
 use Rattle.cckd_layer.proofs.StageLemmas.{new_owner}
 use Rattle.cckd_layer.proofs.ReservedLemmas.{free_of, inside_of}
 
@@ -51,11 +51,11 @@ place_result need ps (Ok pos) is = subst (λ (p : ℕ). p % 8 ≡ 0) (sym is) (p
 place_result need ps (Err full) is = tt
 
 -- a place was claimed, and nothing written
-pub claim_agrees : (claims : List Extent) (null : NullBytes) (s : LayerState) (plan : Plan) (need : ℕ) (w : Seen) → 0 < need → IsReserved need s.plan plan → IsSound plan → AgreesWith claims s w.world
+pub claim_agrees : (claims : List Extent) (null : NullBytes) (s : LayerState) (plan : Plan) (need : ℕ) (w : Seen) → 0 < need → need % 8 ≡ 0 → IsReserved need s.plan plan → IsSound plan → AgreesWith claims s w.world
     → AgreesAgainWith (claim (place_of need s.plan.pieces) need ∷ claims) null s (record s { plan = plan }) w w
-claim_agrees claims null s plan need w some r sound a = record {
+claim_agrees claims null s plan need w some even r sound a = record {
   agrees = record {
-    stands = stands_placed (claimed_view claims s) s.slot w.world plan need some a.stands r sound.laid;
+    stands = stands_placed (claimed_view claims s) s.slot w.world plan need some even a.stands r sound.laid;
     are = a.are;
     fits = a.fits;
     empty = a.empty;
@@ -93,11 +93,20 @@ are_staged v n file are = record { area = are.area; words = are.words; tables = 
 word_plain : (v : TableView) (g : ℕ) → place_for g v.stages.words ≡ None → word_of v g ≡ slice_index v.words g
 word_plain v g none = ap (λ (o : Option ℕ). unwrap_or o (slice_index v.words g)) none
 
+-- a group without an aligned table has none staged
+pub lacks_new : (v : TableView) (g : ℕ) → (HasAlignedTable v g → ⊥) → place_for g v.stages.words ≡ None
+lacks_new v g lacks = by (place_for g v.stages.words) refl
+  where
+    by : (o : Option ℕ) → place_for g v.stages.words ≡ o → place_for g v.stages.words ≡ None
+    by None none = none
+    by (Some pos) some = absurd (lacks (inl (subst (λ (o : Option ℕ). IsSome o) (sym some) refl)))
+
 -- a new table is staged at a place that was claimed, and the group's old table leaves
-pub word_agrees : (claims : List Extent) (null : NullBytes) (s : LayerState) (plan : Plan) (g pos : ℕ) (w : Seen) → g < s.tables.layout.groups → pos % 8 ≡ 0 → place_for g s.tables.stages.words ≡ None
+pub word_agrees : (claims : List Extent) (null : NullBytes) (s : LayerState) (plan : Plan) (g pos : ℕ) (w : Seen) → g < s.tables.layout.groups → pos % 8 ≡ 0 → (HasAlignedTable s.tables g → ⊥)
     → Becomes s.plan plan (left_at (word_of s.tables g) s.plan.pieces) s.plan.size → IsSound plan → AgreesWith (claim pos 2048 ∷ claims) s w.world
     → AgreesAgainWith claims null s (record s { tables = with_stages s.tables (with_word (record { group = g; pos = pos }) s.tables.stages); plan = plan; hardened = false }) w w
-word_agrees claims null s plan g pos w low aligned fresh b sound a =
+word_agrees claims null s plan g pos w low aligned lacks b sound a =
+    let fresh = lacks_new s.tables g lacks in
     let l = s.tables.layout in
     let file = file_of w.world s.slot in
     let v = claimed_view (claim pos 2048 ∷ claims) s in
@@ -108,9 +117,10 @@ word_agrees claims null s plan g pos w low aligned fresh b sound a =
     let short = a.stands.now.spans.short in
     let place : IsPlace pos = (λ zero. absurd (omega (arith, zero, free.area)), λ parent. absurd (omega (arith, parent, end, short))) in
     let word : word_of s.tables g ≡ word_at l file g = word_plain s.tables g fresh ∙ sym (a.are.words g low) in
+    let none : NamesAligned (word_at l file g) → ⊥ = (λ names. lacks (inr (subst NamesAligned (a.are.words g low) names))) in
     record {
       agrees = record {
-        stands = stands_word v n claims plan s.slot w.world g pos refl fresh st (record { low = low; place = place; behind = free.area; aligned = aligned })
+        stands = stands_word v n claims plan s.slot w.world g pos refl fresh st (record { low = low; place = place; behind = free.area; aligned = aligned }) none
             (subst (λ (p : ℕ). Becomes s.plan plan (left_at p s.plan.pieces) s.plan.size) word b) sound.laid a.stands;
         are = are_staged s.tables n file a.are;
         fits = a.fits;
@@ -122,17 +132,17 @@ word_agrees claims null s plan g pos w low aligned fresh b sound a =
     }
 
 -- the same, of what placing answers
-pub claim_map : (claims : List Extent) (null : NullBytes) (s : LayerState) (plan : Plan) (need : ℕ) (w : Seen) (r : Result ℕ Full) → 0 < need → IfOk r (λ pos. pos ≡ place_of need s.plan.pieces)
+pub claim_map : (claims : List Extent) (null : NullBytes) (s : LayerState) (plan : Plan) (need : ℕ) (w : Seen) (r : Result ℕ Full) → 0 < need → need % 8 ≡ 0 → IfOk r (λ pos. pos ≡ place_of need s.plan.pieces)
     → OnOk r (Becomes s.plan plan (with_reserved need s.plan.pieces) (size_with need s.plan)) → (IsErr r ↔ ((largest s.plan.pieces < need) × (room s.plan < need))) → IfOk r (λ pos. pos + need ≤ max s.plan.limit s.plan.size) → IsSound plan
     → IfOk r (λ pos. KeepsMapWith claims (claim pos need ∷ claims) null s (record s { plan = plan }) w w)
-claim_map claims null s plan need w (Err why) some place becomes full within sound = tt
-claim_map claims null s plan need w (Ok pos) some place becomes full within sound = λ told a.
+claim_map claims null s plan need w (Err why) some even place becomes full within sound = tt
+claim_map claims null s plan need w (Ok pos) some even place becomes full within sound = λ told a.
     let roomy : (need ≤ largest s.plan.pieces) ⊎ (need ≤ room s.plan) = elim (cases_lt (largest s.plan.pieces) need) [
       | inl small ↦ elim (cases_lt (room s.plan) need) [ inl low ↦ absurd (let none = full.1 (small, low) in cc) | inr high ↦ inr high ]
       | inr high ↦ inl high
     ] in
     let r : IsReserved need s.plan plan = record { roomy = roomy; within = subst (λ (p : ℕ). p + need ≤ max s.plan.limit s.plan.size) place within; becomes = becomes } in
-    subst (λ (p : ℕ). AgreesAgainWith (claim p need ∷ claims) null s (record s { plan = plan }) w w) (sym place) (claim_agrees claims null s plan need w some r sound a)
+    subst (λ (p : ℕ). AgreesAgainWith (claim p need ∷ claims) null s (record s { plan = plan }) w w) (sym place) (claim_agrees claims null s plan need w some even r sound a)
 
 -- an entry is staged for a track, whose old space goes
 pub track_agrees : (claims rest : List Extent) (null : NullBytes) (s : LayerState) (plan : Plan) (t : ℕ) (e : L2Entry) (pos len : ℕ) (w : Seen) → FreesOld (entry_for t s.tables.stages.entries) pos len s.plan plan → IsSound plan
@@ -182,9 +192,9 @@ track_agrees claims rest null s plan t e pos len w frees sound can at long = rec
 
 -- ---- a claimed place is given back
 
-unclaimed : (l : Layout) (s : Stages) (claims : List Extent) (old new : Plan) (pos n : ℕ) (file : List ℕ) → MayGiveBack pos (length file) old new → IsLaid 0 new.pieces new.size → 0 < old.size
+unclaimed : (l : Layout) (s : Stages) (claims : List Extent) (old new : Plan) (pos n : ℕ) (file : List ℕ) → EndsBefore (pos + n) (length file) old → MayGiveBack pos (length file) old new → IsLaid 0 new.pieces new.size → 0 < old.size
     → Current l s (claim pos n ∷ claims) old file → GivesBack pos (length file) old new × Current l s claims new file
-unclaimed l s claims old new pos n file may laid full c =
+unclaimed l s claims old new pos n file well may laid full c =
     let z = claim pos n in
     let U = IsInUse l s file in
     let L = IsReplaced l s file in
@@ -196,7 +206,7 @@ unclaimed l s claims old new pos n file may laid full c =
     (accounts_cut U L R (length file) old.size (given_back pos old.pieces) (accounts_given U L K z old.pieces old.size c.spans.laid (inr (inl refl)) c.accounts)) in (
       b,
       record {
-        spans = spans_given old new file pos b laid full c.spans;
+        spans = spans_given old new file pos n (c.accounts.reserved.there z (inr (inl refl))) well b laid full c.spans;
         accounts = accounts_same U L R U L (IsPlaced s claims) new.pieces (λ x h. h) (λ x h. h) (λ x h. h) (λ x h. h)
             (λ x h. elim h.0 [ inl new ↦ inl new | inr (inl own) ↦ absurd (h.1 (sym own)) | inr (inr m) ↦ inr m ])
             (λ x h. elim h [
@@ -207,17 +217,18 @@ unclaimed l s claims old new pos n file may laid full c =
         claims_are = c.claims_are.2;
         entries = c.entries;
         words = c.words;
+        lacks = c.lacks;
       },
     )
 
-pub unclaim_agrees : (claims : List Extent) (null : NullBytes) (s : LayerState) (plan : Plan) (pos n len : ℕ) (w : Seen) → MayGiveBack pos len s.plan plan → IsSound plan → len ≡ length (file_of w.world s.slot)
+pub unclaim_agrees : (claims : List Extent) (null : NullBytes) (s : LayerState) (plan : Plan) (pos n len : ℕ) (w : Seen) → EndsBefore (pos + n) len s.plan → MayGiveBack pos len s.plan plan → IsSound plan → len ≡ length (file_of w.world s.slot)
     → AgreesWith (claim pos n ∷ claims) s w.world → AgreesAgainWith claims null s (record s { plan = plan }) w w
-unclaim_agrees claims null s plan pos n len w may sound long a =
+unclaim_agrees claims null s plan pos n len w well may sound long a =
     let file = file_of w.world s.slot in
     let v = claimed_view (claim pos n ∷ claims) s in
     let h = a.stands in
     let area = (stands_sits v s.slot w.world h).whole.image.area in
-    let k = unclaimed s.tables.layout s.tables.stages claims s.plan plan pos n file (subst (λ (m : ℕ). MayGiveBack pos m s.plan plan) long may) sound.laid (omega (arith, area, h.now.spans.covers)) h.now in
+    let k = unclaimed s.tables.layout s.tables.stages claims s.plan plan pos n file (subst (λ (m : ℕ). EndsBefore (pos + n) m s.plan) long well) (subst (λ (m : ℕ). MayGiveBack pos m s.plan plan) long may) sound.laid (omega (arith, area, h.now.spans.covers)) h.now in
     let mid = given_back pos s.plan.pieces in
     record {
       agrees = record {
@@ -231,3 +242,12 @@ unclaim_agrees claims null s plan pos n len w may sound long a =
       entries = λ t low. refl;
       same = record { each = λ t low. refl };
     }
+
+-- the place of a new table may be given back, as long as nothing was placed behind it
+pub table_before : (s m : LayerState) (w : Seen) (wanted : Bool) (table : Option ℕ) (len : ℕ) → is_some table ≡ wanted → IfSome table (λ pos. pos ≡ place_of 2048 s.plan.pieces) → IsGranted (table_need wanted) s.plan m.plan
+    → (wanted ≡ true → len ≡ length (file_of w.world s.slot)) → AgreesWith [] s w.world → IfSome table (λ pos. EndsBefore (pos + 2048) len m.plan)
+table_before s m w wanted None len is place granted long a = tt
+table_before s m w true (Some pos) len is place granted long a =
+    let k = placed_before s.plan m.plan (file_of w.world s.slot) 2048 a.stands.now.spans granted.becomes.sized in
+    subst (λ (n : ℕ). EndsBefore (pos + 2048) n m.plan) (sym (long refl)) (subst (λ (p : ℕ). EndsBefore (p + 2048) (length (file_of w.world s.slot)) m.plan) (sym place) k)
+table_before s m w false (Some pos) len is place granted long a = absurd (let e : true ≡ false = is in cc)

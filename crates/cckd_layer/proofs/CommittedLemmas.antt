@@ -307,6 +307,7 @@ current_committed l s claims was mid file old new rising layout c sync done b la
       claims_are = c.claims_are;
       entries = λ t e h. absurd (cc h);
       words = λ g pos h. absurd (cc h);
+      lacks = λ g moved. absurd (none_moved_at g moved);
     }
 
 -- each file that a stop then leaves rests in the pieces

@@ -1,5 +1,5 @@
 -- The file now and the pieces, once a space is placed and bytes are written beside all that is named.
-use Rattle.std.proofs.Common.{◌≡◌, ◌⊎◌, ℕ, ◌+◌, ◌/◌, ◌%◌, ◌<◌, ◌≤◌, max, List, ◌∷◌, length, refl, sym, ◌∙◌, ap, subst, inl, inr, arith}
+use Rattle.std.proofs.Common.{◌≡◌, ◌⊎◌, ℕ, ◌+◌, ◌/◌, ◌%◌, ◌<◌, ◌≤◌, max, List, ◌∷◌, length, Option, Some, None, IsSome, refl, sym, ◌∙◌, ap, subst, inl, inr, arith}
 use Rattle.cckd_base.specs.declared.geometry.Layout.{Layout}
 use Rattle.cckd_base.specs.declared.entry.L2Entry.{L2Entry}
 use Rattle.cckd_base.specs.declared.space.Extent.{Extent}
@@ -12,8 +12,8 @@ use Rattle.cckd_base.proofs.WriteLemmas.{StaysImage}
 use Rattle.cckd_space.specs.declared.piece.Piece.{Piece}
 use Rattle.cckd_space.specs.Pieces.{IsLaid}
 use Rattle.cckd_space.specs.Plan.{Plan, Becomes, place_of, with_reserved, size_with}
-use Rattle.cckd_tables.specs.Staging.{Stages}
-use Rattle.cckd_layer.specs.Current.{stored_space, claim, IsTableOf, IsTrackOf, IsInUse, IsReplaced, IsPlaced, placed_piece, Accounts, Current}
+use Rattle.cckd_tables.specs.Staging.{Stages, IsMoved, place_for}
+use Rattle.cckd_layer.specs.Current.{stored_space, claim, IsTableOf, IsTrackOf, IsInUse, IsReplaced, IsPlaced, placed_piece, NamesAligned, Accounts, Current}
 use Rattle.cckd_layer.proofs.AccountLemmas.{accounts_same, accounts_placed, has_some}
 use Rattle.cckd_layer.proofs.SpanLemmas.{spans_placed, spans_grown}
 use Rattle.cckd_space.proofs.PlaceLemmas.{placed_clear}
@@ -56,6 +56,14 @@ replaced_same l s was file same e h = elim h [
   | inr track ↦ inr (track.0, track.1, track_same l was file track.0 e same track.2)
 ]
 
+-- a group that is moved gets a table at a place
+pub moved_place : (g : ℕ) (s : Stages) → IsMoved g s → (pos : ℕ) × (place_for g s.words ≡ Some pos)
+moved_place g s moved = by (place_for g s.words) refl
+  where
+    by : (o : Option ℕ) → place_for g s.words ≡ o → (pos : ℕ) × (place_for g s.words ≡ Some pos)
+    by None none = absurd (let m = subst (λ (o : Option ℕ). IsSome o) none moved in cc)
+    by (Some pos) some = (pos, some)
+
 -- the file grew beside all that is named, within the pieces
 pub current_grown : (l : Layout) (s : Stages) (claims : List Extent) (plan : Plan) (was file : List ℕ) → IsLayout l → SameNames l was file → length was ≤ length file → length file ≤ plan.size
     → Current l s claims plan was → Current l s claims plan file
@@ -77,6 +85,9 @@ current_grown l s claims plan was file layout same longer within c = record {
         ];
       };
   words = c.words;
+  lacks = λ g moved names.
+      let named = moved_place g s moved in
+      c.lacks g moved (subst NamesAligned (same.word g (c.words g named.0 named.1).low) names);
 }
 
 -- no space of claims begins where another space is placed
@@ -87,15 +98,15 @@ claim_alone R U L need ps end some laid a e r same =
     elim ((placed_clear need ps end laid).each (placed_piece e) h refl) [ inl b ↦ omega (arith, b, same, size) | inr b ↦ omega (arith, b, same, some) ]
 
 -- a space is placed, and the file is as it was
-pub current_placed : (l : Layout) (s : Stages) (claims : List Extent) (old new : Plan) (file : List ℕ) (need : ℕ) → 0 < need → 0 < old.size
+pub current_placed : (l : Layout) (s : Stages) (claims : List Extent) (old new : Plan) (file : List ℕ) (need : ℕ) → 0 < need → need % 8 ≡ 0 → 0 < old.size
     → Becomes old new (with_reserved need old.pieces) (size_with need old) → IsLaid 0 new.pieces new.size → place_of need old.pieces + need ≤ max old.limit old.size
     → Current l s claims old file → Current l s (claim (place_of need old.pieces) need ∷ claims) new file
-current_placed l s claims old new file need some full b laid within c =
+current_placed l s claims old new file need some even full b laid within c =
     let pos = place_of need old.pieces in
     let accounts : Accounts (IsInUse l s file) (IsReplaced l s file) (λ e. IsPlaced s claims e ⊎ (claim pos need ≡ e)) (with_reserved need old.pieces) =
     accounts_placed (IsInUse l s file) (IsReplaced l s file) (IsPlaced s claims) need old.pieces old.size some c.spans.laid c.accounts in
     record {
-      spans = spans_placed old new file need some full b laid within c.spans;
+      spans = spans_placed old new file need some even full b laid within c.spans;
       accounts = subst (Accounts (IsInUse l s file) (IsReplaced l s file) (IsPlaced s (claim pos need ∷ claims))) (sym b.made)
           (accounts_same (IsInUse l s file) (IsReplaced l s file) (λ e. IsPlaced s claims e ⊎ (claim pos need ≡ e)) (IsInUse l s file) (IsReplaced l s file) (IsPlaced s (claim pos need ∷ claims)) (with_reserved need old.pieces)
           (λ e h. h) (λ e h. h) (λ e h. h) (λ e h. h)
@@ -104,4 +115,5 @@ current_placed l s claims old new file need some full b laid within c =
       claims_are = (refl, λ among. claim_alone (IsPlaced s claims) (IsInUse l s file) (IsReplaced l s file) need old.pieces old.size some c.spans.laid c.accounts (claim pos need) (inr among) refl, c.claims_are);
       entries = c.entries;
       words = c.words;
+      lacks = c.lacks;
     }

@@ -15,6 +15,8 @@ pub mod CurrentLemmas
 pub mod FillLemmas
 pub mod FoundLemmas
 pub mod HeadLemmas
+pub mod InRoomLemmas
+pub mod JustifiedLemmas
 pub mod LinkLemmas
 pub mod MarkLemmas
 pub mod MountLemmas
@@ -52,3 +54,4 @@ pub mod ClippedLemmas
 pub mod TiedLemmas
 pub mod CompleteLemmas
 pub mod ExcessLemmas
+pub mod CalmLemmas

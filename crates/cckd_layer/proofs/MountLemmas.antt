@@ -1,4 +1,5 @@
 -- What a file that was surveyed and found without a misfit has to do with the pieces that are made of it.
+use Rattle.cckd_space.proofs.LaidLemmas.{up}
 use Rattle.std.proofs.Common.{◌≡◌, ℕ, ◌<◌, ◌≤◌, Bool, false, List, [], length, Option, None, Some, unwrap_or, refl, sym, ◌∙◌, ap, subst, inl, inr, arith}
 use Rattle.std.proofs.lemmas.Bool.{false≢true}
 use Rattle.std.specs.Prelude.{Result, Ok, Err, IfOk}
@@ -114,6 +115,7 @@ module _ (l : Layout) (file : List ℕ) (found : IsFound l file) where
           covers = omega arith;
           ends = inl (omega arith);
           inside = λ p there kind. ends_within p 0 (pieces_of 0 used (length file)) (length file) found.laid there;
+          tight = λ at past low. absurd (let k = up (length file) in omega (arith, k, past, low));
           short = headed_short (identifiers_for l) l file found.headed;
           limited = short;
         };
@@ -137,6 +139,7 @@ module _ (l : Layout) (file : List ℕ) (found : IsFound l file) where
         claims_are = tt;
         entries = λ t e named. absurd (cc named);
         words = λ g pos named. absurd (cc named);
+        lacks = λ g moved. absurd (none_moved g moved);
       }
 
 -- It stands, where whatever a stop leaves is the file now.

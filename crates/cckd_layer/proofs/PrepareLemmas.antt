@@ -46,14 +46,6 @@ has_word claims s w g a has = by (place_for g s.tables.stages.words) refl
           | inr stands ↦ (subst IsPlace (sym same) stands.0, subst (λ (x : ℕ). x % 8 ≡ 0) (sym same) stands.1)
         ]
 
--- a group without an aligned table has none staged
-pub lacks_new : (v : TableView) (g : ℕ) → (HasAlignedTable v g → ⊥) → place_for g v.stages.words ≡ None
-lacks_new v g lacks = by (place_for g v.stages.words) refl
-  where
-    by : (o : Option ℕ) → place_for g v.stages.words ≡ o → place_for g v.stages.words ≡ None
-    by None none = none
-    by (Some pos) some = absurd (lacks (inl (subst (λ (o : Option ℕ). IsSome o) (sym some) refl)))
-
 -- the layer agrees with its file as before, whatever of its tables is cached
 pub looked_agrees : (claims : List Extent) (null : NullBytes) (s : LayerState) (cached : List CachedTable) (old new : Seen) → new.world ≡ old.world → AreOf (with_cached s.tables cached) (file_of old.world s.slot)
     → AgreesWith claims s old.world → AgreesAgainWith claims null s (with_tables s (with_cached s.tables cached)) old new

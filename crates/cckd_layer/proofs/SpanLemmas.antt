@@ -1,5 +1,5 @@
 -- What each act keeps of held bytes, and of how pieces and file go together.
-use Rattle.std.proofs.Common.{◌≡◌, ◌⊎◌, ℕ, ◌+◌, ◌<◌, ◌≤◌, ◌&&◌, ◌==◌, nat_le, max, Bool, true, false, cond, List, [], ◌∷◌, length, map, Option, Some, None, refl, sym, ◌∙◌, ap, subst, inl, inr, arith}
+use Rattle.std.proofs.Common.{◌≡◌, ◌⊎◌, ℕ, ◌+◌, ◌<◌, ◌≤◌, ◌&&◌, ◌==◌, nat_le, max, Bool, true, false, cond, List, [], ◌∷◌, length, map, Option, Some, None, refl, sym, ◌∙◌, ap, subst, inl, inr, arith, ◌%◌, ◌-◌}
 use Rattle.std.specs.Option.{option_map, unwrap_or}
 use Rattle.std.proofs.lemmas.Bool.{cases_eq, cases_lt, cond_both, cond-true, cond-false, ne_eqb, leb-false}
 use Rattle.cckd_base.specs.declared.geometry.Layout.{Layout}
@@ -13,14 +13,15 @@ use Rattle.cckd_space.specs.declared.piece.Kind.TheVariants.{Used, Free, Reserve
 use Rattle.cckd_space.specs.declared.piece.Piece.{Piece}
 use Rattle.cckd_space.specs.Pieces.{Has, IsLaid, IsFormedAs, is_free, is_used_at, is_reserved_at, reserved_kind, free_kind, first, replaced, settled, left, freed, merged, retired, retired_as, released, reserved_piece, used_end, cut, has_room, aligned_up, end_place, piece_end}
 use Rattle.cckd_space.specs.Plan.{Plan, Becomes, place_of, with_reserved, size_with, size_at}
-use Rattle.cckd_space.proofs.LaidLemmas.{up, used_end_within, laid_freed}
+use Rattle.cckd_space.proofs.LaidLemmas.{up, used_end_within, laid_freed, room_facts}
 use Rattle.cckd_space.proofs.CallerLemmas.{first_has, found, has_replaced, has_new, has_map, has_merged, has_trimmed, has_of_replaced, has_of_merged, placed_found, placed_keeps}
 use Rattle.cckd_space.proofs.SearchLemmas.{used_there}
 use Rattle.cckd_space.proofs.CountLemmas.{found_used}
+use Rattle.cckd_space.proofs.PlaceLemmas.{laid_apart, has_within}
 use Rattle.cckd_layer.specs.Sits.{held_kind, IsHeld, Rests, Sits}
-use Rattle.cckd_layer.specs.Current.{placed_piece, Spans}
-use Rattle.cckd_layer.specs.Acts.{given_back, GivesBack}
-use Rattle.cckd_layer.proofs.AccountLemmas.{has_of_map, has_of_placed, has_of_cut, unreleased, placed_at}
+use Rattle.cckd_layer.specs.Current.{placed_piece, IsReservedAt, Spans}
+use Rattle.cckd_layer.specs.Acts.{given_back, GivesBack, EndsBefore}
+use Rattle.cckd_layer.proofs.AccountLemmas.{has_of_map, has_of_placed, has_of_cut, has_some, unreleased, placed_at, replaced_gone}
 
 -- ---- held bytes
 
@@ -225,6 +226,12 @@ spans_by old new file laid sized limit ends stays s = record {
     ]
   ];
   inside = ends.each;
+  tight = λ at past low.
+      let r = s.tight at past (omega (arith, low, sized)) in
+      elim (stays r.pos r.size r.there) [
+        | inl inside ↦ absurd (let k = up (length file) in let h = r.high in omega (arith, k, past, inside, h))
+        | inr there ↦ record { pos = r.pos; size = r.size; there = there; low = r.low; high = r.high; even = r.even }
+      ];
   short = omega (arith, s.short, sized);
   limited = omega (arith, s.limited, limit);
 }
@@ -320,43 +327,6 @@ placed_size need plan some laid full = by (first (has_room need) plan.pieces) re
         let g = grows_to need 0 plan.pieces plan.size laid e (some_pieces 0 plan.pieces plan.size laid full) in
         (omega (arith, s, g), inr (omega (arith, s, p)))
 
--- bytes are placed, and the file is as it was
-pub spans_placed : (old new : Plan) (file : List ℕ) (need : ℕ) → 0 < need → 0 < old.size → Becomes old new (with_reserved need old.pieces) (size_with need old)
-    → IsLaid 0 new.pieces new.size → place_of need old.pieces + need ≤ max old.limit old.size → Spans old file → Spans new file
-spans_placed old new file need some full b laid within s =
-    let size = placed_size need old some s.laid full in
-    let there : Has (reserved_piece (place_of need old.pieces) need) new.pieces =
-    subst (Has (reserved_piece (place_of need old.pieces) need)) (sym b.made)
-    (first_has (is_reserved_at (place_of need old.pieces)) (with_reserved need old.pieces) (reserved_piece (place_of need old.pieces) need) (placed_found need old.pieces old.size some s.laid)).0 in
-    record {
-      laid = laid;
-      covers = omega (arith, s.covers, size.0, b.sized);
-      ends = elim size.1 [
-        | inr at_end ↦ inr (place_of need old.pieces, need, there, sym (b.sized ∙ at_end))
-        | inl same ↦ elim s.ends [
-          | inl low ↦ inl (omega (arith, low, same, b.sized))
-          | inr r ↦ inr (r.0, r.1, subst (Has (reserved_piece r.0 r.1)) (sym b.made) (placed_keeps need old.pieces (reserved_piece r.0 r.1) refl r.2), omega (arith, r.3, same, b.sized))
-        ]
-      ];
-      inside = (subst (EndsBy (length file)) (sym b.made) (ends_placed (length file) need old.pieces (spans_ends old file s))).each;
-      short = elim size.1 [
-        | inl same ↦ omega (arith, same, b.sized, s.short)
-        | inr at_end ↦ omega (arith, at_end, b.sized, within, s.short, s.limited)
-      ];
-      limited = omega (arith, b.limit, s.limited);
-    }
-
--- the file grows within the pieces
-pub spans_grown : (plan : Plan) (was file : List ℕ) → length was ≤ length file → length file ≤ plan.size → Spans plan was → Spans plan file
-spans_grown plan was file longer within s = record {
-  laid = s.laid;
-  covers = within;
-  ends = elim s.ends [ inl low ↦ inl (omega (arith, low, longer)) | inr r ↦ inr r ];
-  inside = λ p h k. let e = s.inside p h k in omega (arith, e, longer);
-  short = s.short;
-  limited = s.limited;
-}
-
 -- where a file would end without a Free piece at its end, a piece ends that isn't Free
 used_end_there : (at : ℕ) (ps : List Piece) (end : ℕ) → IsLaid at ps end → 0 < length ps → (used_end ps ≡ at) ⊎ ((p : Piece) × Has p ps × (is_free p ≡ false) × (piece_end p ≡ used_end ps))
 used_end_there at [] end laid some = absurd (omega (arith, some))
@@ -405,9 +375,222 @@ reserved_form at (q ∷ qs) end p laid h k = elim h [
       a ∙ (b ∙ c))
 ]
 
+-- past the file, the end without a Free piece is at a multiple of 8
+pub tight_end : (plan : Plan) (file : List ℕ) → Spans plan file → 0 < length plan.pieces → aligned_up (length file) < used_end plan.pieces → used_end plan.pieces % 8 ≡ 0
+tight_end plan file s some past = elim (used_end_there 0 plan.pieces plan.size s.laid some) [
+  | inl none ↦ absurd (omega (arith, none, past))
+  | inr r ↦ elim (busy_kinds r.0 r.0.kind refl r.2) [
+    | inl held ↦ absurd (let e = s.inside r.0 r.1 held in let k = up (length file) in let same = r.3 in omega (arith, e, k, same, past))
+    | inr kept ↦
+        let within = used_end_within plan.pieces plan.size s.laid in
+        let at = used_end plan.pieces - 1 in
+        let o = s.tight at (omega (arith, past)) (omega (arith, past, within)) in
+        let big = has_some 0 plan.pieces plan.size r.0 s.laid r.1 in
+        let same = r.3 in
+        let high = o.high in
+        let low = o.low in
+        elim (laid_apart 0 plan.pieces plan.size (reserved_piece o.pos o.size) r.0 s.laid o.there r.1) [
+          | inl one ↦ let e = ap piece_end one in subst (λ (n : ℕ). n % 8 ≡ 0) (e ∙ same) o.even
+          | inr (inl before) ↦ absurd (omega (arith, before, high, same, big, past))
+          | inr (inr behind) ↦ absurd (omega (arith, behind, low, same, past))
+        ]
+  ]
+]
+
+-- where so many bytes are placed, if the file grows
+pub placed_end : (need : ℕ) (plan : Plan) → (size_with need plan ≡ plan.size) ⊎ ((size_with need plan ≡ end_place plan.pieces + need) × (place_of need plan.pieces ≡ end_place plan.pieces))
+placed_end need plan = by (first (has_room need) plan.pieces) refl
+  where
+    by : (o : Option Piece) → first (has_room need) plan.pieces ≡ o → (size_with need plan ≡ plan.size) ⊎ ((size_with need plan ≡ end_place plan.pieces + need) × (place_of need plan.pieces ≡ end_place plan.pieces))
+    by (Some q) e = inl (ap (λ (o : Option Piece). size_at (option_map (λ p. aligned_up p.pos) o) need plan) e)
+    by None e = inr (
+      ap (λ (o : Option Piece). size_at (option_map (λ p. aligned_up p.pos) o) need plan) e,
+      ap (λ (o : Option Piece). unwrap_or (option_map (λ p. aligned_up p.pos) o) (end_place plan.pieces)) e,
+    )
+
+-- a Free piece ends by the file's end, or by the multiple of 8 behind it
+pub free_ends : (plan : Plan) (file : List ℕ) (p : Piece) → Spans plan file → Has p plan.pieces → is_free p ≡ true → piece_end p ≤ aligned_up (length file)
+free_ends plan file p s here free = elim (cases_lt (aligned_up (length file)) (piece_end p)) [
+  | inr low ↦ low
+  | inl past ↦ absurd (
+      let within = has_within 0 plan.pieces plan.size p s.laid here in
+      let big = has_some 0 plan.pieces plan.size p s.laid here in
+      let o = s.tight (piece_end p - 1) (omega (arith, past)) (omega (arith, past, within)) in
+      let high = o.high in
+      let low = o.low in
+      elim (laid_apart 0 plan.pieces plan.size (reserved_piece o.pos o.size) p s.laid o.there here) [
+        | inl one ↦ (let f : false ≡ true = ap is_free one ∙ free in cc)
+        | inr (inl before) ↦ omega (arith, before, high, big, past)
+        | inr (inr behind) ↦ omega (arith, behind, low, past, big)
+      ])
+]
+
+-- what was placed at the first fit or at the end may be given back
+pub placed_before : (old new : Plan) (file : List ℕ) (need : ℕ) → Spans old file → new.size ≡ size_with need old → EndsBefore (place_of need old.pieces + need) (length file) new
+placed_before old new file need s sized = by (first (has_room need) old.pieces) refl
+  where
+    by : (o : Option Piece) → first (has_room need) old.pieces ≡ o → EndsBefore (place_of need old.pieces + need) (length file) new
+    by (Some p) e =
+        let k = first_has (has_room need) old.pieces p e in
+        let r = room_facts need p k.1 in
+        let end = free_ends old file p s k.0 r.free in
+        let fits = r.fits in
+        let place : place_of need old.pieces ≡ aligned_up p.pos = ap (λ (o : Option Piece). unwrap_or (option_map (λ (p : Piece). aligned_up p.pos) o) (end_place old.pieces)) e in
+        inl (omega (arith, end, fits, place))
+    by None e =
+        let size : size_with need old ≡ end_place old.pieces + need = ap (λ (o : Option Piece). size_at (option_map (λ (p : Piece). aligned_up p.pos) o) need old) e in
+        let place : place_of need old.pieces ≡ end_place old.pieces = ap (λ (o : Option Piece). unwrap_or (option_map (λ (p : Piece). aligned_up p.pos) o) (end_place old.pieces)) e in
+        inr (omega (arith, size, place, sized))
+
+-- a byte past the file is Reserved once bytes are placed
+placed_tight : (plan : Plan) (file : List ℕ) (need : ℕ) → 0 < need → need % 8 ≡ 0 → 0 < plan.size → Spans plan file → (at : ℕ) → aligned_up (length file) ≤ at → at < size_with need plan
+    → IsReservedAt (with_reserved need plan.pieces) at
+placed_tight plan file need some even full s at past low = elim (cases_lt at plan.size) [
+  | inl within ↦ let r = s.tight at past within in record {
+    pos = r.pos;
+    size = r.size;
+    there = placed_keeps need plan.pieces (reserved_piece r.pos r.size) refl r.there;
+    low = r.low;
+    high = r.high;
+    even = r.even;
+  }
+  | inr grown ↦ elim (placed_end need plan) [
+    | inl same ↦ absurd (omega (arith, grown, same, low))
+    | inr at_end ↦
+        let pos = place_of need plan.pieces in
+        let place = at_end.1 in
+        let sized = at_end.0 in
+        let within = used_end_within plan.pieces plan.size s.laid in
+        let begins : pos ≤ at = elim (cases_lt at pos) [
+          | inr high ↦ high
+          | inl below ↦ absurd (elim (cases_lt (aligned_up (length file)) (used_end plan.pieces)) [
+            | inl far ↦ let e = tight_end plan file s (some_pieces 0 plan.pieces plan.size s.laid full) far in omega (arith, e, below, place, within, grown)
+            | inr near ↦ omega (arith, near, below, place, past)
+          ])
+        ] in
+        record {
+          pos = pos;
+          size = need;
+          there = (first_has (is_reserved_at pos) (with_reserved need plan.pieces) (reserved_piece pos need) (placed_found need plan.pieces plan.size some s.laid)).0;
+          low = begins;
+          high = omega (arith, low, sized, place);
+          even = omega (arith, place, even);
+        }
+  ]
+]
+
+-- bytes are placed, and the file is as it was
+pub spans_placed : (old new : Plan) (file : List ℕ) (need : ℕ) → 0 < need → need % 8 ≡ 0 → 0 < old.size → Becomes old new (with_reserved need old.pieces) (size_with need old)
+    → IsLaid 0 new.pieces new.size → place_of need old.pieces + need ≤ max old.limit old.size → Spans old file → Spans new file
+spans_placed old new file need some even full b laid within s =
+    let size = placed_size need old some s.laid full in
+    let there : Has (reserved_piece (place_of need old.pieces) need) new.pieces =
+    subst (Has (reserved_piece (place_of need old.pieces) need)) (sym b.made)
+    (first_has (is_reserved_at (place_of need old.pieces)) (with_reserved need old.pieces) (reserved_piece (place_of need old.pieces) need) (placed_found need old.pieces old.size some s.laid)).0 in
+    record {
+      laid = laid;
+      covers = omega (arith, s.covers, size.0, b.sized);
+      ends = elim size.1 [
+        | inr at_end ↦ inr (place_of need old.pieces, need, there, sym (b.sized ∙ at_end))
+        | inl same ↦ elim s.ends [
+          | inl low ↦ inl (omega (arith, low, same, b.sized))
+          | inr r ↦ inr (r.0, r.1, subst (Has (reserved_piece r.0 r.1)) (sym b.made) (placed_keeps need old.pieces (reserved_piece r.0 r.1) refl r.2), omega (arith, r.3, same, b.sized))
+        ]
+      ];
+      inside = (subst (EndsBy (length file)) (sym b.made) (ends_placed (length file) need old.pieces (spans_ends old file s))).each;
+      tight = λ at past low.
+          let sized = b.sized in
+          subst (λ (ps : List Piece). IsReservedAt ps at) (sym b.made) (placed_tight old file need some even full s at past (omega (arith, low, sized)));
+      short = elim size.1 [
+        | inl same ↦ omega (arith, same, b.sized, s.short)
+        | inr at_end ↦ omega (arith, at_end, b.sized, within, s.short, s.limited)
+      ];
+      limited = omega (arith, b.limit, s.limited);
+    }
+
+-- the file grows within the pieces
+pub spans_grown : (plan : Plan) (was file : List ℕ) → length was ≤ length file → length file ≤ plan.size → Spans plan was → Spans plan file
+spans_grown plan was file longer within s = record {
+  laid = s.laid;
+  covers = within;
+  ends = elim s.ends [ inl low ↦ inl (omega (arith, low, longer)) | inr r ↦ inr r ];
+  inside = λ p h k. let e = s.inside p h k in omega (arith, e, longer);
+  tight = λ at past low. s.tight at (omega (arith, past, longer)) low;
+  short = s.short;
+  limited = s.limited;
+}
+
+-- a byte past the file is still Reserved once a piece was given back
+given_tight : (old : Plan) (file : List ℕ) (pos n : ℕ) → Has (reserved_piece pos n) old.pieces → EndsBefore (pos + n) (length file) old → Spans old file
+    → (at : ℕ) → aligned_up (length file) ≤ at → at < used_end (given_back pos old.pieces) → IsLaid 0 (given_back pos old.pieces) old.size → 0 < length (given_back pos old.pieces)
+    → IsReservedAt (cut (length file) old.size (given_back pos old.pieces)) at
+given_tight old file pos n here well s at past used laid_mid some =
+    let within = used_end_within mid old.size laid_mid in
+    let r = s.tight at past (omega (arith, used, within)) in
+    let high = r.high in
+    let low = r.low in
+    elim (cases_eq r.pos pos) [
+      | inr other ↦ record {
+        pos = r.pos;
+        size = r.size;
+        there = has_trimmed mid _ (reserved_piece r.pos r.size) refl
+            (has_merged _ (reserved_piece r.pos r.size) refl (has_replaced (is_reserved_at pos) (λ q. freed q ∷ []) old.pieces (reserved_piece r.pos r.size) (ne_eqb r.pos pos other) r.there));
+        low = r.low;
+        high = r.high;
+        even = r.even;
+      }
+      | inl same ↦ absurd (elim well [ inl near ↦ not_here r.pos r.size same r.there high near | inr last ↦ not_last r.pos r.size same r.there low high last ])
+    ]
+  where
+    mid : List Piece
+    mid = given_back pos old.pieces
+
+    z : Piece
+    z = reserved_piece pos n
+
+    one : (at m : ℕ) → at ≡ pos → Has (reserved_piece at m) old.pieces → m ≡ n
+    one at m same there =
+        let y : Extent = record { pos = at; len = m; size = m; owner = Nobody } in
+        let x : Extent = record { pos = pos; len = n; size = n; owner = Nobody } in
+        let f = placed_at y old.pieces old.size s.laid there in
+        let g = placed_at x old.pieces old.size s.laid here in
+        let e : Some (placed_piece y) ≡ Some (placed_piece x) = sym f ∙ (ap (λ (k : ℕ). first (is_reserved_at k) old.pieces) same ∙ g) in
+        let d : placed_piece y ≡ placed_piece x = cc in
+        ap (λ (p : Piece). p.size) d
+
+    not_here : (q m : ℕ) → q ≡ pos → Has (reserved_piece q m) old.pieces → at < q + m → pos + n ≤ aligned_up (length file) → ⊥
+    not_here q m same there high near = let e = one q m same there in omega (arith, e, same, high, near, past)
+
+    gone : Has z mid → ⊥
+    gone h =
+        let x : Extent = record { pos = pos; len = n; size = n; owner = Nobody } in
+        elim (replaced_gone (is_reserved_at pos) (λ q. freed q ∷ []) 0 old.pieces old.size z s.laid (placed_at x old.pieces old.size s.laid here) (has_of_merged _ z refl h)) [
+          | inl e ↦ (let f : true ≡ false = ap (λ (p : Piece). is_free p) e in cc)
+          | inr none ↦ none
+        ]
+
+    not_last : (q m : ℕ) → q ≡ pos → Has (reserved_piece q m) old.pieces → q ≤ at → at < q + m → pos + n ≡ old.size → ⊥
+    not_last q m same there low high last = elim (used_end_there 0 mid old.size laid_mid some) [
+      | inl none ↦ omega (arith, none, used)
+      | inr b ↦
+          let end = b.3 in
+          let kept : Has b.0 old.pieces = elim (has_of_replaced (is_reserved_at pos) (λ q. freed q ∷ []) old.pieces b.0 (has_of_merged _ b.0 b.2 b.1)) [
+            | inl old_one ↦ old_one
+            | inr new ↦ elim new.2 [ inl e ↦ absurd (let f : true ≡ false = ap is_free e ∙ b.2 in cc) | inr none ↦ absurd none ]
+          ] in
+          let within = used_end_within mid old.size laid_mid in
+          let big = has_some 0 old.pieces old.size b.0 s.laid kept in
+          elim (laid_apart 0 old.pieces old.size b.0 z s.laid kept here) [
+            | inl is_z ↦ gone (subst (λ (p : Piece). Has p mid) is_z b.1)
+            | inr (inl before) ↦ omega (arith, before, end, used, low, same)
+            | inr (inr behind) ↦ omega (arith, behind, end, within, last, big)
+          ]
+    ]
+
 -- a Reserved piece is given back, and the end is cut back to the file's length
-pub spans_given : (old new : Plan) (file : List ℕ) (pos : ℕ) → GivesBack pos (length file) old new → IsLaid 0 new.pieces new.size → 0 < old.size → Spans old file → Spans new file
-spans_given old new file pos c laid full s =
+pub spans_given : (old new : Plan) (file : List ℕ) (pos n : ℕ) → Has (reserved_piece pos n) old.pieces → EndsBefore (pos + n) (length file) old → GivesBack pos (length file) old new → IsLaid 0 new.pieces new.size → 0 < old.size
+    → Spans old file → Spans new file
+spans_given old new file pos size here well c laid full s =
     let mid = given_back pos old.pieces in
     let laid_mid : IsLaid 0 mid old.size = laid_freed (is_reserved_at pos) old.pieces old.size s.laid in
     let within = used_end_within mid old.size laid_mid in
@@ -433,6 +616,12 @@ spans_given old new file pos c laid full s =
         ]
       ];
       inside = (subst (EndsBy (length file)) (sym c.made) (ends_cut (length file) (length file) old.size mid ends_mid)).each;
+      tight = λ at past low.
+          let sized = c.sized in
+          let k = up (length file) in
+          let used : at < used_end mid = omega (arith, low, sized, past, k) in
+          subst (λ (ps : List Piece). IsReservedAt ps at) (sym c.made)
+          (given_tight old file pos size here well s at past used laid_mid some);
       short = omega (arith, s.short, c.sized, within);
       limited = omega (arith, s.limited, c.limit);
     }

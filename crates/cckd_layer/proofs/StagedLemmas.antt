@@ -1,5 +1,5 @@
 -- The file now and the pieces, and what holds between calls, once an entry or a word is staged.
-use Rattle.std.proofs.Common.{◌≡◌, ℕ, ◌/◌, ◌<◌, List, ◌∷◌, length, Option, Some, None, IsSome, refl, sym, ◌∙◌, ap, subst, inl, inr}
+use Rattle.std.proofs.Common.{◌≡◌, ℕ, ◌/◌, ◌<◌, List, ◌∷◌, length, Option, Some, None, IsSome, refl, sym, ◌∙◌, ap, subst, inl, inr, ◌+◌, arith, ◌≤◌}
 use Rattle.std.specs.Option.{unwrap_or}
 use Rattle.std.proofs.lemmas.Bool.{cases_eq}
 use Rattle.cckd_shelf.specs.World.{World, file_of}
@@ -12,11 +12,11 @@ use Rattle.cckd_base.specs.Entry.{word_at, entry_at, bytes_by_entry}
 use Rattle.cckd_base.specs.Image.{IsPlace}
 use Rattle.cckd_base.proofs.PlaceLemmas.{place_or_not}
 use Rattle.cckd_space.specs.declared.piece.Piece.{Piece}
-use Rattle.cckd_space.specs.Pieces.{IsLaid}
+use Rattle.cckd_space.specs.Pieces.{IsLaid, aligned_up}
 use Rattle.cckd_space.specs.Plan.{Plan, Becomes}
 use Rattle.cckd_tables.specs.Staging.{Stages, IsStaged, IsMoved, entry_for, place_for}
 use Rattle.cckd_layer.specs.Held.{NullBytes, Stores, held}
-use Rattle.cckd_layer.specs.Current.{stored_space, claim, IsInUse, IsReplaced, IsPlaced, AreClaims, Accounts, Spans, CanBeEntry, CanBeWord, Current}
+use Rattle.cckd_layer.specs.Current.{stored_space, claim, IsInUse, IsReplaced, IsPlaced, AreClaims, Accounts, Spans, CanBeEntry, CanBeWord, Current, NamesAligned}
 use Rattle.cckd_layer.specs.Stands.{LayerView, Stands}
 use Rattle.cckd_layer.specs.Acts.{StagesEntry, StagesWord, left_at, given_back, GivesBack, MayGiveBack}
 use Rattle.cckd_layer.proofs.AccountLemmas.{placed_at, accounts_same, accounts_given, accounts_cut}
@@ -74,6 +74,10 @@ words_can : (l : Layout) (s n : Stages) (t : ℕ) (e : L2Entry) → StagesEntry 
     → (g pos : ℕ) → place_for g n.words ≡ Some pos → CanBeWord l g pos
 words_can l s n t e st old g pos h = old g pos (sym (st.words g) ∙ h)
 
+-- no group gets another table
+lacks_can : (l : Layout) (s n : Stages) (file : List ℕ) (t : ℕ) (e : L2Entry) → StagesEntry t e s n → ((g : ℕ) → IsMoved g s → NamesAligned (word_at l file g) → ⊥) → (g : ℕ) → IsMoved g n → NamesAligned (word_at l file g) → ⊥
+lacks_can l s n file t e st old g moved = old g (subst (λ (x : Option ℕ). IsSome x) (st.words g) moved)
+
 left_spans : (old new : Plan) (file : List ℕ) (pos : ℕ) → Becomes old new (left_at pos old.pieces) old.size → IsLaid 0 new.pieces new.size → Spans old file → Spans new file
 left_spans old new file pos b laid s = elim (place_or_not pos) [
   | inl place ↦ spans_left old new file pos (subst (λ (ps : List Piece). Becomes old new ps old.size) (left_is pos old.pieces place) b) laid s
@@ -106,6 +110,7 @@ current_staged l s n claims rest old new file t e fresh st can takes b laid c = 
   claims_are = rest_claims e claims rest takes c.claims_are;
   entries = entries_can l s n file t e st c.entries can;
   words = words_can l s n t e st c.words;
+  lacks = lacks_can l s n file t e st c.lacks;
 }
 
 -- ---- a track that is staged gets another entry, and the space of its staged one is given back
@@ -163,6 +168,7 @@ current_again_none l s n claims rest plan file t e o again none st can takes c =
   claims_are = rest_claims e claims rest takes c.claims_are;
   entries = entries_can l s n file t e st c.entries can;
   words = words_can l s n t e st c.words;
+  lacks = lacks_can l s n file t e st c.lacks;
 }
 
 -- it names one: that is given back
@@ -172,8 +178,9 @@ current_again l s n claims rest old new file t e o again place st can takes may 
     let z = stored_space t o in
     let k = given_accounts (IsInUse l s file) (IsReplaced l s file) s claims old new (length file) t o again place c.spans.laid may c.accounts in
     let R : Extent → Type 0 = λ x. IsPlaced s claims x × (x ≡ z → ⊥) in
+    let within : o.pos + o.size ≤ aligned_up (length file) = (let n = (c.entries t o again).snug place in omega (arith, n)) in
     record {
-      spans = spans_given old new file o.pos k.0 laid full c.spans;
+      spans = spans_given old new file o.pos o.size (c.accounts.reserved.there z (inl (inr (t, record { entry = o; named = again; place = place; is = refl })))) (inl within) k.0 laid full c.spans;
       accounts = entry_reserved s n t e st (IsInUse l n file) (IsReplaced l n file) R claims rest new.pieces takes c.claims_are
           (λ x h. (
             h.0,
@@ -190,14 +197,15 @@ current_again l s n claims rest old new file t e o again place st can takes may 
       claims_are = rest_claims e claims rest takes c.claims_are;
       entries = entries_can l s n file t e st c.entries can;
       words = words_can l s n t e st c.words;
+      lacks = lacks_can l s n file t e st c.lacks;
     }
 
 -- ---- a word is staged for a group that had none, and the group's table leaves
 
-pub current_word : (l : Layout) (s n : Stages) (rest : List Extent) (old new : Plan) (file : List ℕ) (g pos : ℕ) → place_for g s.words ≡ None → StagesWord g pos s n → CanBeWord l g pos
+pub current_word : (l : Layout) (s n : Stages) (rest : List Extent) (old new : Plan) (file : List ℕ) (g pos : ℕ) → place_for g s.words ≡ None → StagesWord g pos s n → CanBeWord l g pos → (NamesAligned (word_at l file g) → ⊥)
     → Becomes old new (left_at (word_at l file g) old.pieces) old.size → IsLaid 0 new.pieces new.size
     → Current l s (claim pos 2048 ∷ rest) old file → Current l n rest new file
-current_word l s n rest old new file g pos fresh st can b laid c = record {
+current_word l s n rest old new file g pos fresh st can none b laid c = record {
   spans = left_spans old new file (word_at l file g) b laid c.spans;
   accounts = subst (Accounts (IsInUse l n file) (IsReplaced l n file) (IsPlaced n rest)) (sym b.made)
       (word_takes l s n file g pos can.low fresh st (IsInUse l n file) (IsReplaced l n file) rest (left_at (word_at l file g) old.pieces) c.claims_are
@@ -217,6 +225,10 @@ current_word l s n rest old new file g pos fresh st can b laid c = record {
         let one : pos ≡ p = (let f : Some pos ≡ Some p = sym st.here ∙ there in cc) in
         subst (λ (x : ℕ). CanBeWord l x p) same (subst (CanBeWord l g) one can)
     | inr other ↦ c.words h p (sym (st.others h other) ∙ k)
+  ];
+  lacks = λ h moved. elim (cases_eq g h) [
+    | inl same ↦ subst (λ (x : ℕ). NamesAligned (word_at l file x) → ⊥) same none
+    | inr other ↦ c.lacks h (subst (λ (x : Option ℕ). IsSome x) (st.others h other) moved)
   ];
 }
 
@@ -259,12 +271,12 @@ stands_again v n rest new slot w t e o again place st can takes may laid full h 
     (current_again v.layout v.stages n v.claims rest v.plan new (file_of w slot) t e o again place st can takes may laid full c) h
 
 pub stands_word : (v : LayerView) (n : Stages) (rest : List Extent) (new : Plan) (slot : ℕ) (w : World) (g pos : ℕ) → v.claims ≡ claim pos 2048 ∷ rest → place_for g v.stages.words ≡ None → StagesWord g pos v.stages n
-    → CanBeWord v.layout g pos → Becomes v.plan new (left_at (word_at v.layout (file_of w slot) g) v.plan.pieces) v.plan.size → IsLaid 0 new.pieces new.size
+    → CanBeWord v.layout g pos → (NamesAligned (word_at v.layout (file_of w slot) g) → ⊥) → Becomes v.plan new (left_at (word_at v.layout (file_of w slot) g) v.plan.pieces) v.plan.size → IsLaid 0 new.pieces new.size
     → Stands v slot w → Stands (record v { stages = n; claims = rest; plan = new }) slot w
-stands_word v n rest new slot w g pos claimed fresh st can b laid h =
+stands_word v n rest new slot w g pos claimed fresh st can none b laid h =
     let old = word_at v.layout (file_of w slot) g in
     stands_by v n rest new slot w (subst (KeepsHeld v.plan.pieces) (sym b.made) (left_held old v.plan.pieces v.plan.size h.now.spans.laid))
-    (current_word v.layout v.stages n rest v.plan new (file_of w slot) g pos fresh st can b laid (subst (λ (cs : List Extent). Current v.layout v.stages cs v.plan (file_of w slot)) claimed h.now)) h
+    (current_word v.layout v.stages n rest v.plan new (file_of w slot) g pos fresh st can none b laid (subst (λ (cs : List Extent). Current v.layout v.stages cs v.plan (file_of w slot)) claimed h.now)) h
 
 -- ---- the layer's map
 

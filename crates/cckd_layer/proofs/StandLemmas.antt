@@ -122,10 +122,10 @@ put_done v slot w new bytes some s r =
     }
 
 -- a layer stands once bytes are put
-pub stands_put : (v : LayerView) (slot : ℕ) (w after : World) (new : Plan) (bytes : List ℕ) → 0 < length bytes → Stands v slot w → IsReserved (length bytes) v.plan new → IsLaid 0 new.pieces new.size
+pub stands_put : (v : LayerView) (slot : ℕ) (w after : World) (new : Plan) (bytes : List ℕ) → 0 < length bytes → length bytes % 8 ≡ 0 → Stands v slot w → IsReserved (length bytes) v.plan new → IsLaid 0 new.pieces new.size
     → after ≡ after_write slot (place_of (length bytes) v.plan.pieces) bytes w
     → Stands (with_claim (place_of (length bytes) v.plan.pieces) (length bytes) new v) slot after
-stands_put v slot w after new bytes some s r laid made =
+stands_put v slot w after new bytes some even s r laid made =
     let n = length bytes in
     let pos = place_of n v.plan.pieces in
     let was = file_of w slot in
@@ -134,7 +134,7 @@ stands_put v slot w after new bytes some s r laid made =
     let now : file_of after slot ≡ file = now_wrote slot pos bytes w after made in
     let done = put_done v slot w new bytes some s r in
     let area = (stands_sits v slot w s).whole.image.area in
-    let placed = current_placed v.layout v.stages v.claims v.plan new was n some (omega (arith, area, spans.covers)) r.becomes laid r.within s.now in
+    let placed = current_placed v.layout v.stages v.claims v.plan new was n some even (omega (arith, area, spans.covers)) r.becomes laid r.within s.now in
     let there = placed.accounts.reserved.there (claim pos n) (inr (inl refl)) in
     let ends = has_within 0 new.pieces new.size (placed_piece (claim pos n)) laid there in
     let size : length file ≤ new.size = omega (arith, length_overlaid was pos bytes, ends, placed.spans.covers) in
@@ -191,13 +191,13 @@ put_each P v slot old new bytes plan result kept some told s puts made stops eac
 
 -- ---- a space is placed, and nothing is written
 
-pub stands_placed : (v : LayerView) (slot : ℕ) (w : World) (new : Plan) (n : ℕ) → 0 < n → Stands v slot w → IsReserved n v.plan new → IsLaid 0 new.pieces new.size → Stands (with_claim (place_of n v.plan.pieces) n new v) slot w
-stands_placed v slot w new n some s r laid =
+pub stands_placed : (v : LayerView) (slot : ℕ) (w : World) (new : Plan) (n : ℕ) → 0 < n → n % 8 ≡ 0 → Stands v slot w → IsReserved n v.plan new → IsLaid 0 new.pieces new.size → Stands (with_claim (place_of n v.plan.pieces) n new v) slot w
+stands_placed v slot w new n some even s r laid =
     let keeps = subst (λ (qs : List Piece). KeepsHeld v.plan.pieces qs) (sym r.becomes.made) (held_placed n v.plan.pieces) in
     let area = (stands_sits v slot w s).whole.image.area in
     record {
       sure = s.sure;
-      now = current_placed v.layout v.stages v.claims v.plan new (file_of w slot) n some (omega (arith, area, s.now.spans.covers)) r.becomes laid r.within s.now;
+      now = current_placed v.layout v.stages v.claims v.plan new (file_of w slot) n some even (omega (arith, area, s.now.spans.covers)) r.becomes laid r.within s.now;
       each = λ f o. keeps_sits v.layout v.plan.pieces new.pieces f keeps (s.each f o);
       marked = s.marked;
     }
@@ -248,6 +248,7 @@ current_released l s claims old new file b laid c = record {
   claims_are = c.claims_are;
   entries = c.entries;
   words = c.words;
+  lacks = c.lacks;
 }
 
 -- Each outcome is the file now, so only what that names has to be held.

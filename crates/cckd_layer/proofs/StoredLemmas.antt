@@ -15,7 +15,8 @@ use Rattle.cckd_base.specs.Image.{IsPlace}
 use Rattle.cckd_base.specs.Misfit.{entry_misfit}
 use Rattle.cckd_base.proofs.PlaceLemmas.{stored_can_be, placed_bytes}
 use Rattle.cckd_space.specs.Pieces.{aligned_up}
-use Rattle.cckd_tables.specs.Staging.{IsStaged, place_for}
+use Rattle.cckd_tables.specs.Staging.{IsStaged}
+use Rattle.cckd_tables.specs.Looking.{HasAlignedTable}
 use Rattle.cckd_tables.specs.Tables.{TableView}
 use Rattle.cckd_layer.specs.declared.writing.Stored.{Stored}
 use Rattle.cckd_layer.specs.declared.writing.Stored.TheVariants as stored
@@ -58,7 +59,7 @@ pub record IsPut (null : NullBytes) (m u : LayerState) (t old len0 : ℕ) (track
   pub given : is_some track ≡ is_some (need_of st)
   pub again : AgreesAgainWith (claim_of (need_of st) track ++ claim_of (Some 2048) table) null m u b d
   pub put : IsPutTo track value (file_of b.world m.slot) (file_of d.world m.slot)
-  pub new : is_some table ≡ true → place_for (t / 256) m.tables.stages.words ≡ None
+  pub new : is_some table ≡ true → HasAlignedTable m.tables (t / 256) → ⊥
   pub points : old ≡ (entry_now m b t).pos
   pub length_is : IsStaged t m.tables.stages → len0 ≡ length (file_of b.world m.slot)
 
@@ -71,8 +72,8 @@ module _ (null : NullBytes) (m u : LayerState) (t old len0 : ℕ) (track table :
   low_now : t < track_count u.tables.layout.geo
   low_now = subst (λ (l : Layout). t < track_count l.geo) (sym p.same.layout) p.low
 
-  new_now : is_some table ≡ true → place_for (t / 256) u.tables.stages.words ≡ None
-  new_now some = subst (λ (v : TableView). place_for (t / 256) v.stages.words ≡ None) (sym p.tables) (p.new some)
+  new_now : is_some table ≡ true → HasAlignedTable u.tables (t / 256) → ⊥
+  new_now some = subst (λ (v : TableView). HasAlignedTable v (t / 256) → ⊥) (sym p.tables) (p.new some)
 
   points_now : old ≡ (entry_now u d t).pos
   points_now = p.points ∙ sym (ap (λ (e : L2Entry). e.pos) (p.again.entries t p.low))

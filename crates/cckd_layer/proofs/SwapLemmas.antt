@@ -35,6 +35,7 @@ agrees_swap a b rest s w g =
           claims_are = claims_swap a b rest now.claims_are;
           entries = now.entries;
           words = now.words;
+          lacks = now.lacks;
         };
         each = g.stands.each;
         marked = g.stands.marked;

@@ -1,11 +1,11 @@
 -- What the acts of a layer make of its pieces.
-use Rattle.std.specs.Prelude.{ℕ, ◌≡◌, ◌==◌, nat_lt, min, max, if◌then◌else◌, List, [], ◌∷◌, ◌++◌, map, Option, Some, None, IsSome}
+use Rattle.std.specs.Prelude.{ℕ, ◌≡◌, ◌⊎◌, ◌≤◌, ◌==◌, nat_lt, min, max, if◌then◌else◌, List, [], ◌∷◌, ◌++◌, map, Option, Some, None, IsSome}
 use Rattle.cckd_base.specs.declared.entry.L2Entry.{L2Entry}
 use Rattle.cckd_base.specs.declared.space.Extent.{Extent}
 use Rattle.cckd_base.specs.Entry.{see_parent}
 use Rattle.cckd_base.specs.Survey.{table_space}
 use Rattle.cckd_space.specs.declared.piece.Piece.{Piece}
-use Rattle.cckd_space.specs.Pieces.{first, replaced, is_used_at, is_reserved_at, left, freed, settled, retired, merged, used_end, cut}
+use Rattle.cckd_space.specs.Pieces.{first, replaced, is_used_at, is_reserved_at, left, freed, settled, retired, merged, used_end, aligned_up, cut}
 use Rattle.cckd_space.specs.Plan.{Plan, Becomes}
 use Rattle.cckd_tables.specs.declared.staged.StagedEntry.{StagedEntry}
 use Rattle.cckd_tables.specs.declared.staged.StagedWord.{StagedWord}
@@ -37,6 +37,11 @@ given_back pos ps = merged (replaced (is_reserved_at pos) (λ p. freed p ∷ [])
 abbrev pub GivesBack : ℕ → ℕ → Plan → Plan → Type 0
 GivesBack pos len old new =
     Becomes old new (cut len old.size (given_back pos old.pieces)) (max (used_end (given_back pos old.pieces)) (min len old.size))
+
+-- A space that ends here leaves no room past a file of this length when it is given back: it ends by the file's end, or ends the
+-- pieces.
+abbrev pub EndsBefore : ℕ → ℕ → Plan → Type 0
+EndsBefore end len plan = (end ≤ aligned_up len) ⊎ (end ≡ plan.size)
 
 -- so it is where a Reserved piece stands at the position, and else nothing is done
 pub record MayGiveBack (pos len : ℕ) (old new : Plan) : Type 0 where

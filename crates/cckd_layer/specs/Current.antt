@@ -12,7 +12,7 @@ use Rattle.cckd_base.specs.Image.{IsPlace}
 use Rattle.cckd_space.specs.declared.piece.Kind.{Kind}
 use Rattle.cckd_space.specs.declared.piece.Kind.TheVariants.{Used, Leaving, Reserved}
 use Rattle.cckd_space.specs.declared.piece.Piece.{Piece}
-use Rattle.cckd_space.specs.Pieces.{Has, piece_end, used_piece, reserved_piece, IsLaid}
+use Rattle.cckd_space.specs.Pieces.{Has, piece_end, aligned_up, used_piece, reserved_piece, IsLaid}
 use Rattle.cckd_space.specs.Plan.{Plan}
 use Rattle.cckd_tables.specs.Staging.{Stages, IsStaged, IsMoved, entry_for, place_for}
 use Rattle.cckd_layer.specs.Sits.{held_kind}
@@ -105,13 +105,23 @@ pub record Accounts (IsUsed IsLeft IsKept : Extent → Type 0) (ps : List Piece)
   pub reserved : AreExactly Reserved placed_piece IsKept ps
   pub differ : (a b : Extent) → IsKept a → IsKept b → a.pos ≡ b.pos → a ≡ b
 
+-- a byte lies in a Reserved piece that ends at a multiple of 8
+pub record IsReservedAt (ps : List Piece) (at : ℕ) : Type 0 where
+  pub pos : ℕ
+  pub size : ℕ
+  pub there : Has (reserved_piece pos size) ps
+  pub low : pos ≤ at
+  pub high : at < pos + size
+  pub even : (pos + size) % 8 ≡ 0
+
 -- The pieces cover the file, and end with it or with a Reserved one. What a file needs that a stop leaves ends inside the
--- file.
+-- file. Past the file, from a multiple of 8 on, each byte is Reserved: no room is lost there.
 pub record Spans (plan : Plan) (file : List ℕ) : Type 0 where
   pub laid : IsLaid 0 plan.pieces plan.size
   pub covers : length file ≤ plan.size
   pub ends : (plan.size ≤ length file) ⊎ ((pos : ℕ) × (n : ℕ) × Has (reserved_piece pos n) plan.pieces × (pos + n ≡ plan.size))
   pub inside : (p : Piece) → Has p plan.pieces → held_kind p.kind ≡ true → piece_end p ≤ length file
+  pub tight : (at : ℕ) → aligned_up (length file) ≤ at → at < plan.size → IsReservedAt plan.pieces at
   pub short : plan.size ≤ format_limit
   pub limited : plan.limit ≤ format_limit
 
@@ -131,11 +141,17 @@ pub record CanBeWord (l : Layout) (g pos : ℕ) : Type 0 where
   pub behind : area_of l.groups ≤ pos
   pub aligned : pos % 8 ≡ 0
 
+-- a level-one word names a table at a multiple of 8
+abbrev pub NamesAligned : ℕ → Type 0
+NamesAligned word = IsPlace word × (word % 8 ≡ 0)
+
 -- The file now, what is staged over it, what is claimed beside, and the pieces: what the file names is Used, or, where
--- something staged replaces it, Leaving; and what is placed is Reserved.
+-- something staged replaces it, Leaving; and what is placed is Reserved. A group gets a new table only where it has none at a
+-- multiple of 8.
 pub record Current (l : Layout) (s : Stages) (claims : List Extent) (plan : Plan) (file : List ℕ) : Type 0 where
   pub spans : Spans plan file
   pub accounts : Accounts (IsInUse l s file) (IsReplaced l s file) (IsPlaced s claims) plan.pieces
   pub claims_are : AreClaims claims
   pub entries : (t : ℕ) (e : L2Entry) → entry_for t s.entries ≡ Some e → CanBeEntry l s file t e
   pub words : (g pos : ℕ) → place_for g s.words ≡ Some pos → CanBeWord l g pos
+  pub lacks : (g : ℕ) → IsMoved g s → NamesAligned (word_at l file g) → ⊥

@@ -10,8 +10,10 @@ pub mod Stands
 pub mod Closed
 pub mod Reads
 pub mod Mounted
+pub mod Justified
 pub mod Writes
 pub mod Loose
 pub mod Preparing
 pub mod Storing
 pub mod Callers
+pub mod Calm

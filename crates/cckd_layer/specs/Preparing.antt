@@ -1,5 +1,5 @@
 -- What a write needs before it changes anything: room among what is staged, and places.
-use Rattle.std.specs.Prelude.{ℕ, ◌≡◌, ◌/◌, ◌%◌, Bool, true, false, length, Option, Some, None, IfSome, Result, Ok}
+use Rattle.std.specs.Prelude.{ℕ, ◌≡◌, ◌/◌, ◌%◌, Bool, true, false, length, Option, Some, IfSome, Result, Ok}
 use Rattle.std.specs.Option.{is_some}
 use Rattle.cckd_shelf.specs.World.{World, file_of}
 use Rattle.cckd_shelf.specs.Seen.{Seen, Tells, Stays}
@@ -8,7 +8,7 @@ use Rattle.cckd_base.specs.declared.layer_fault.LayerFault.{LayerFault}
 use Rattle.cckd_base.specs.declared.layer_fault.LayerFault.TheVariants as fault
 use Rattle.cckd_space.specs.Pieces.{counted, is_leaving, is_pending}
 use Rattle.cckd_space.specs.Plan.{Plan}
-use Rattle.cckd_tables.specs.Staging.{IsStaged, place_for}
+use Rattle.cckd_tables.specs.Staging.{IsStaged}
 use Rattle.cckd_tables.specs.Looking.{HasAlignedTable}
 use Rattle.cckd_layer.specs.Mounted.{LayerState}
 use Rattle.cckd_layer.specs.declared.preparing.Room.{Room}
@@ -31,9 +31,10 @@ pub record IsRoom (s : LayerState) (t : ℕ) (need : Option ℕ) (room : Room) :
   pub table : is_some room.places.table ≡ false → HasAlignedTable s.tables (t / 256)
   pub track : is_some room.places.track ≡ is_some need
 
--- No table was staged where one is given. The length that was noted is the file's, where a place may be given back.
+-- The group has no table at a multiple of 8 where one is given. The length that was noted is the file's, where a place may be
+-- given back.
 pub record SuitsFile (s : LayerState) (t : ℕ) (room : Room) (w : World) : Type 0 where
-  pub new : is_some room.places.table ≡ true → place_for (t / 256) s.tables.stages.words ≡ None
+  pub new : is_some room.places.table ≡ true → HasAlignedTable s.tables (t / 256) → ⊥
   pub length_is : IsStaged t s.tables.stages → room.len ≡ length (file_of w s.slot)
 
 -- A write has no room: its places aren't there on pieces with which the layer agrees with its file, with the layer's limit,

@@ -11,7 +11,8 @@ use Rattle.cckd_base.specs.Entry.{null_entry}
 use Rattle.cckd_base.specs.Misfit.{entry_misfit}
 use Rattle.cckd_base.specs.Image.{IsPlace}
 use Rattle.cckd_space.specs.Pieces.{aligned_up}
-use Rattle.cckd_tables.specs.Staging.{IsStaged, place_for}
+use Rattle.cckd_tables.specs.Staging.{IsStaged}
+use Rattle.cckd_tables.specs.Looking.{HasAlignedTable}
 use Rattle.cckd_tables.specs.declared.device.Device.{Device}
 use Rattle.cckd_tables.specs.declared.device.Device.TheVariants as device
 use Rattle.cckd_layer.specs.declared.writing.Form.{Form}
@@ -87,15 +88,15 @@ breaks (Err device.Write) = true
 breaks (Err device.Sync) = true
 
 -- An entry of a track can be staged, whose old one points there: it can be in the file, and its space and that of the
--- group's new table are claimed, where it has one and one is given. No new table was staged for the group before. The length
--- is the file's, where an entry is staged for the track.
+-- group's new table are claimed, where it has one and one is given. One is given only where the group has none at a multiple
+-- of 8. The length is the file's, where an entry is staged for the track.
 pub record CanPlace (claims : List Extent) (s : LayerState) (t old : ℕ) (table : Option ℕ) (e : L2Entry) (len : ℕ) (w : Seen) : Type 0 where
   pub agrees : AgreesWith (claims ++ claim_of (Some 2048) table) s w.world
   pub takes : TakesClaim e claims []
   pub low : t < track_count s.tables.layout.geo
   pub fits : entry_misfit s.tables.layout (length (file_of w.world s.slot)) t e ≡ None
   pub snug : IsPlace e.pos → e.pos + e.size ≤ length (file_of w.world s.slot)
-  pub new : is_some table ≡ true → place_for (t / 256) s.tables.stages.words ≡ None
+  pub new : is_some table ≡ true → HasAlignedTable s.tables (t / 256) → ⊥
   pub points : old ≡ (entry_now s w t).pos
   pub length_is : IsStaged t s.tables.stages → len ≡ length (file_of w.world s.slot)
 

@@ -1,5 +1,5 @@
 //! Places that are claimed for what is to be written, and new tables that are staged.
-ghost use Rattle.std.specs.Prelude.{◌≡◌, ◌⊎◌, ◌+◌, ◌<◌, ◌≤◌, ◌/◌, ◌%◌, [], ◌∷◌, ◌++◌, ℕ, List, length, None, Some, IsSome, IfSome, IfOk, OnOk, IfErr, OnErr, true};
+ghost use Rattle.std.specs.Prelude.{◌≡◌, ◌⊎◌, ◌+◌, ◌<◌, ◌≤◌, ◌/◌, ◌%◌, [], ◌∷◌, ◌++◌, ℕ, List, length, None, Some, IsSome, IfSome, IfOk, OnOk, IfErr, OnErr, true, max};
 ghost use Rattle.std.specs.Option.{is_some};
 ghost use Rattle.cckd_shelf.specs.Seen.{Seen};
 ghost use Rattle.cckd_base.specs.declared.space.Extent.{Extent as Space_of};
@@ -7,10 +7,10 @@ ghost use Rattle.cckd_shelf.specs.World.{file_of};
 ghost use Rattle.cckd_base.specs.Geometry.{track_count};
 ghost use Rattle.cckd_base.specs.Entry.{bytes_by_entry};
 ghost use Rattle.cckd_space.specs.Plan.{IsNeed, IsSound, place_of};
-ghost use Rattle.cckd_tables.specs.Staging.{IsStaged, IsMoved, place_for};
+ghost use Rattle.cckd_tables.specs.Staging.{IsStaged, IsMoved};
 ghost use Rattle.cckd_tables.specs.Stages.{free_count};
 ghost use Rattle.cckd_tables.specs.Looking.{HasAlignedTable};
-ghost use Rattle.cckd_layer.specs.Acts.{MayGiveBack};
+ghost use Rattle.cckd_layer.specs.Acts.{MayGiveBack, EndsBefore};
 ghost use Rattle.cckd_layer.specs.Current.{claim};
 ghost use Rattle.cckd_layer.specs.Puts.{IsReserved, HasNoRoom};
 ghost use Rattle.cckd_layer.specs.Writes.{KeepsMapWith, CanStage, StoresIn, FreesOld, entry_now, claim_of, table_need, claims_of, IsGranted, IsDenied, HaveNoPlaces, with_plan, with_table, with_track};
@@ -33,6 +33,7 @@ pub(crate) struct Places {
 fn free_old(space: &mut Space, staged: Option<L2Entry>, pos: u32, len: u32)
     ensures frees { FreesOld staged pos len space.old space.new }
     ensures limit { space.new.limit ≡ space.old.limit }
+    ensures size { space.new.size ≤ space.old.size }
     ensures spent { space.old.spare ≤ space.new.spare }
     ensures sound { IsSound space.new }
 {
@@ -56,6 +57,7 @@ impl<U: Unit> Layer<U> {
         ensures reserved { OnOk result (IsReserved need self.old.plan self.new.plan) }
         ensures rest { self.new ≡ with_plan self.old self.new.plan }
         ensures limit { self.new.plan.limit ≡ self.old.plan.limit }
+        ensures size { self.new.plan.size ≤ max self.old.plan.limit self.old.plan.size }
         ensures map { (claims : List Space_of) (w : Seen) → IfOk result (λ pos. KeepsMapWith claims (claim pos need ∷ claims) U.null_bytes self.old self.new w w) }
         ensures full { IfErr result (HasNoRoom need self.old.plan) }
         ensures same { OnErr result (self.new ≡ self.old) }
@@ -70,7 +72,8 @@ impl<U: Unit> Layer<U> {
         ensures gives { MayGiveBack pos len self.old.plan self.new.plan }
         ensures rest { self.new ≡ with_plan self.old self.new.plan }
         ensures limit { self.new.plan.limit ≡ self.old.plan.limit }
-        ensures map { (claims : List Space_of) (n : ℕ) (w : Seen) → len ≡ length (file_of w.world self.old.slot)
+        ensures size { self.new.plan.size ≤ max self.old.plan.limit self.old.plan.size }
+        ensures map { (claims : List Space_of) (n : ℕ) (w : Seen) → len ≡ length (file_of w.world self.old.slot) → EndsBefore (pos + n) len self.old.plan
             → KeepsMapWith (claim pos n ∷ claims) claims U.null_bytes self.old self.new w w }
         ensures spent { self.old.plan.spare ≤ self.new.plan.spare }
     {
@@ -84,9 +87,10 @@ impl<U: Unit> Layer<U> {
         requires place { pos % 8 ≡ 0 }
         ensures staged { self.new ≡ with_table group pos self.old self.new.plan }
         ensures limit { self.new.plan.limit ≡ self.old.plan.limit }
+        ensures size { self.new.plan.size ≡ self.old.plan.size }
         ensures free { free_count self.old.tables.stages ≤ free_count self.new.tables.stages + 1 }
         ensures table { HasAlignedTable self.new.tables group }
-        ensures map { (claims : List Space_of) (w : Seen) → place_for group self.old.tables.stages.words ≡ None
+        ensures map { (claims : List Space_of) (w : Seen) → (HasAlignedTable self.old.tables group → ⊥)
             → KeepsMapWith (claim pos 2048 ∷ claims) claims U.null_bytes self.old self.new w w }
         ensures spent { self.new.plan.spare ≡ self.old.plan.spare }
     {
@@ -105,6 +109,7 @@ impl<U: Unit> Layer<U> {
         requires table { HasAlignedTable self.old.tables (t.0 / 256) }
         ensures staged { self.new ≡ with_track t.0 entry self.old self.new.plan }
         ensures limit { self.new.plan.limit ≡ self.old.plan.limit }
+        ensures size { self.new.plan.size ≤ self.old.plan.size }
         ensures map { (claims rest : List Space_of) (w : Seen) → CanStage claims rest self.old t.0 entry w
             → pos ≡ (entry_now self.old w t.0).pos → (IsStaged t.0 self.old.tables.stages → len ≡ length (file_of w.world self.old.slot))
             → StoresIn rest U.null_bytes self.old self.new t.0 (bytes_by_entry U.null_bytes self.old.tables.layout (file_of w.world self.old.slot) t.0 entry) w w }
@@ -121,8 +126,10 @@ impl<U: Unit> Layer<U> {
         requires spare { 2 ≤ self.old.plan.spare }
         ensures rest { self.new ≡ with_plan self.old self.new.plan }
         ensures limit { self.new.plan.limit ≡ self.old.plan.limit }
+        ensures size { self.new.plan.size ≤ max self.old.plan.limit self.old.plan.size }
         ensures map { (w : Seen) → IfOk result (λ place. KeepsMapWith [] (claim_of (Some 2048) place) U.null_bytes self.old self.new w w) }
         ensures wanted { IfOk result (λ place. is_some place ≡ wanted) }
+        ensures place { IfOk result (λ place. IfSome place (λ pos. pos ≡ place_of 2048 self.old.plan.pieces)) }
         ensures aligned { IfOk result (λ place. IfSome place (λ pos. pos % 8 ≡ 0)) }
         ensures granted { OnOk result (IsGranted (table_need wanted) self.old.plan self.new.plan) }
         ensures denied { IfErr result (IsDenied (table_need wanted) self.old.plan) }
@@ -144,6 +151,7 @@ impl<U: Unit> Layer<U> {
         requires spare { 2 ≤ self.old.plan.spare }
         ensures rest { self.new ≡ with_plan self.old self.new.plan }
         ensures limit { self.new.plan.limit ≡ self.old.plan.limit }
+        ensures size { self.new.plan.size ≤ max self.old.plan.limit self.old.plan.size }
         ensures map { (claims : List Space_of) (w : Seen) → IfOk result (λ place. KeepsMapWith claims (claim_of need place ++ claims) U.null_bytes self.old self.new w w) }
         ensures wanted { IfOk result (λ place. is_some place ≡ is_some need) }
         ensures granted { OnOk result (IsGranted need self.old.plan self.new.plan) }
@@ -163,7 +171,8 @@ impl<U: Unit> Layer<U> {
     fn unclaim_table(&mut self, table: Option<u32>, len: u32)
         ensures rest { self.new ≡ with_plan self.old self.new.plan }
         ensures limit { self.new.plan.limit ≡ self.old.plan.limit }
-        ensures map { (w : Seen) → (IsSome table → len ≡ length (file_of w.world self.old.slot))
+        ensures size { self.new.plan.size ≤ max self.old.plan.limit self.old.plan.size }
+        ensures map { (w : Seen) → (IsSome table → len ≡ length (file_of w.world self.old.slot)) → IfSome table (λ pos. EndsBefore (pos + 2048) len self.old.plan)
             → KeepsMapWith (claim_of (Some 2048) table) [] U.null_bytes self.old self.new w w }
     {
         if let Some(pos) = table {
@@ -183,6 +192,7 @@ impl<U: Unit> Layer<U> {
         requires spare { 4 ≤ self.old.plan.spare }
         ensures rest { self.new ≡ with_plan self.old self.new.plan }
         ensures limit { self.new.plan.limit ≡ self.old.plan.limit }
+        ensures size { self.new.plan.size ≤ max self.old.plan.limit self.old.plan.size }
         ensures table { IfOk result (λ places. is_some places.table ≡ wanted) }
         ensures aligned { IfOk result (λ places. IfSome places.table (λ pos. pos % 8 ≡ 0)) }
         ensures track { IfOk result (λ places. is_some places.track ≡ is_some need) }

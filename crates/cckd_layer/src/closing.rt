@@ -1,4 +1,5 @@
 //! Closing an image whose tables are all written: the chain, and then the second header.
+ghost use Rattle.cckd_layer.specs.Justified.{StaysInRoom};
 ghost use Rattle.std.specs.Prelude.{◌≡◌, true, false, Err, IsOk, OnOk, IfOk, IfErr};
 ghost use Rattle.cckd_shelf.specs.Seen.{seen, Tells, Stays};
 ghost use Rattle.cckd_shelf.specs.World.{IsSure, file_of};
@@ -121,6 +122,7 @@ impl<U: Unit> Layer<U> {
         ensures holds { OnOk result (StopHolds U.null_bytes self.old (seen T.Shows stage.old) (seen T.Shows stage.new)) }
         ensures map { OnOk result (KeepsMap U.null_bytes self.old self.new (seen T.Shows stage.old) (seen T.Shows stage.new)) }
         ensures same { IsSameFile self.old self.new }
+        ensures confined { StaysInRoom self.old self.new }
         ensures still { self.old.marked ≡ false → self.old.hardened ≡ true → IsOk result × (self.new ≡ self.old) × (seen T.Shows stage.new ≡ seen T.Shows stage.old) }
 
         // At a fault of reading all is as before, and any other breaks the layer.

@@ -1,11 +1,14 @@
 //! Hardening: all that was written to a layer is on the disk for good.
+ghost use Rattle.cckd_layer.specs.Justified.{StaysInRoom};
 ghost use Rattle.std.specs.Prelude.{◌≡◌, true, false, Err, IsOk, OnOk, IfErr};
-ghost use Rattle.cckd_shelf.specs.Seen.{seen, Stays};
+ghost use Rattle.cckd_shelf.specs.Seen.{seen, Stays, Makes};
+ghost use Rattle.cckd_shelf.specs.World.{after_sync};
 ghost use Rattle.cckd_shelf.specs.Frame.{OnlyIn};
 ghost use Rattle.cckd_tables.specs.Device.{CountsDevice};
 ghost use Rattle.cckd_layer.specs.Stands.{nothing_staged};
 ghost use Rattle.cckd_layer.specs.Mounted.{CanRead};
 ghost use Rattle.cckd_layer.specs.Writes.{KeepsMap, StopsWithin, StopHolds, IsReleased, IsSettled, IsSameLayer, IsOutside, CountsLayer, failed_by, fault_of, is_broken_by};
+ghost use Rattle.cckd_layer.specs.Calm.{LeavesFile};
 
 use crate::layer::Layer;
 use cckd_base::{LayerFault, Unit};
@@ -27,6 +30,7 @@ impl<U: Unit> Layer<U> {
     /// Makes what was committed stay, and frees what it replaced.
     fn make_stay<T: Stage>(&mut self, stage: &mut T) -> Result<(), Device>
         ensures released { OnOk result (IsReleased self.old self.new) }
+        ensures synced { OnOk result (Makes (after_sync self.old.slot) (seen T.Shows stage.old) (seen T.Shows stage.new)) }
         ensures map { self.old.tables.stages ≡ nothing_staged → OnOk result (KeepsMap U.null_bytes self.old self.new (seen T.Shows stage.old) (seen T.Shows stage.new)) }
         ensures holds { self.old.tables.stages ≡ nothing_staged → OnOk result (StopHolds U.null_bytes self.old (seen T.Shows stage.old) (seen T.Shows stage.new)) }
         ensures failed { IfErr result (λ fault. (fault ≡ Device.Sync) × (self.new ≡ failed_by Device.Sync self.old)) }
@@ -49,9 +53,11 @@ impl<U: Unit> Layer<U> {
         requires can_read { CanRead self.old (seen T.Shows stage.old) }
         ensures hardened { OnOk result (self.new.hardened ≡ true) }
         ensures settled { OnOk result (IsSettled self.new) }
+        ensures leaves { OnOk result (LeavesFile self.old (seen T.Shows stage.old) (seen T.Shows stage.new)) }
         ensures same { IsSameLayer self.old self.new }
         ensures map { OnOk result (KeepsMap U.null_bytes self.old self.new (seen T.Shows stage.old) (seen T.Shows stage.new)) }
         ensures holds { OnOk result (StopHolds U.null_bytes self.old (seen T.Shows stage.old) (seen T.Shows stage.new)) }
+        ensures confined { StaysInRoom self.old self.new }
         ensures broken { self.new.broken ≡ is_broken_by result }
         ensures refusal { IfErr result IsOutside }
         ensures read { result ≡ Err LayerFault.ReadFault → (self.new ≡ self.old) × Stays (seen T.Shows stage.old) (seen T.Shows stage.new) }
@@ -78,6 +84,7 @@ impl<U: Unit> Layer<U> {
         ensures holds { OnOk result (StopHolds U.null_bytes self.old (seen T.Shows stage.old) (seen T.Shows stage.new)) }
         ensures map { OnOk result (KeepsMap U.null_bytes self.old self.new (seen T.Shows stage.old) (seen T.Shows stage.new)) }
         ensures same { IsSameLayer self.old self.new }
+        ensures confined { StaysInRoom self.old self.new }
         ensures still { self.old.hardened ≡ true → IsOk result × (self.new ≡ self.old) × (seen T.Shows stage.new ≡ seen T.Shows stage.old) }
 
         // At a fault of reading all is as before, and any other breaks the layer.

@@ -1,8 +1,9 @@
 //! What keeps a layer standing, whatever its file and its pieces are. The functions do nothing: each contract is a law.
-ghost use Rattle.std.specs.Prelude.{◌≡◌, ◌<◌, ◌∷◌, ◌/◌, ◌%◌, ℕ, List, None, Some, length, map, true, false};
+ghost use Rattle.std.specs.Prelude.{◌≡◌, ◌<◌, ◌∷◌, ◌/◌, ◌%◌, ℕ, List, Option, None, Some, length, map, true, false};
 ghost use Rattle.cckd_base.specs.declared.geometry.Layout.{Layout};
 ghost use Rattle.cckd_base.specs.declared.entry.L2Entry.{L2Entry};
 ghost use Rattle.cckd_base.specs.declared.space.Extent.{Extent};
+ghost use Rattle.cckd_base.specs.declared.space.Full.{Full};
 ghost use Rattle.cckd_base.specs.Entry.{word_at, entry_at};
 ghost use Rattle.cckd_base.specs.Image.{IsPlace};
 ghost use Rattle.cckd_base.specs.Geometry.{track_count};
@@ -11,22 +12,25 @@ ghost use Rattle.cckd_shelf.specs.World.{World, IsSure, file_of, after_write, af
 ghost use Rattle.cckd_shelf.specs.Seen.{Seen, Tells};
 ghost use Rattle.cckd_shelf.specs.Stops.{StopsLeave};
 ghost use Rattle.cckd_shelf.specs.Outcomes.{EachOutcome, AtEach};
-ghost use Rattle.cckd_space.specs.Pieces.{IsLaid, merged, released};
+ghost use Rattle.cckd_space.specs.Pieces.{IsLaid, aligned_up, merged, released};
 ghost use Rattle.cckd_space.specs.Plan.{Plan, Becomes, place_of};
 ghost use Rattle.cckd_tables.specs.Commit.{CanCommit, IsBlended, IsCommittedFrom, MayLeave};
 ghost use Rattle.cckd_layer.specs.Held.{NullBytes, Tracks, Later, LiesWithin, Keeps, Holds, held};
-ghost use Rattle.cckd_tables.specs.Staging.{Stages, entry_for, place_for};
-ghost use Rattle.cckd_layer.specs.Current.{claim, CanBeEntry, CanBeWord};
+ghost use Rattle.cckd_tables.specs.Staging.{Stages, IsMoved, entry_for, place_for};
+ghost use Rattle.cckd_layer.specs.Current.{claim, CanBeEntry, CanBeWord, NamesAligned};
 ghost use Rattle.cckd_layer.specs.Puts.{IsReserved};
 ghost use Rattle.cckd_layer.specs.Changes.{IsRemarked};
 ghost use Rattle.cckd_layer.specs.Acts.{StagesEntry, StagesWord, left_at, MayGiveBack, committed_pieces};
 ghost use Rattle.cckd_layer.specs.Marks.{SpellsSecond, FitsLayout};
+ghost use Rattle.cckd_layer.specs.Mounted.{LayerState};
+ghost use Rattle.cckd_layer.specs.Preparing.{LacksRoom};
+ghost use Rattle.cckd_layer.specs.Justified.{Attempt, IsOneOf, IsJustified};
 ghost use Rattle.cckd_layer.specs.Chain.{IsClosingAs, IsClosedFrom};
 ghost use Rattle.cckd_layer.specs.Stands.{AreRising, nothing_staged, LayerView, Stands};
 
-/// Bytes that are put to a free place keep it standing, and claim their space.
+/// Bytes that are put to a free place keep it standing, and claim their space. Their number is a multiple of 8.
 pub fn puts_stand()
-    ensures { (v : LayerView) (slot : ℕ) (w after : World) (new : Plan) (bytes : List ℕ) → 0 < length bytes → Stands v slot w → IsReserved (length bytes) v.plan new
+    ensures { (v : LayerView) (slot : ℕ) (w after : World) (new : Plan) (bytes : List ℕ) → 0 < length bytes → length bytes % 8 ≡ 0 → Stands v slot w → IsReserved (length bytes) v.plan new
         → IsLaid 0 new.pieces new.size → after ≡ after_write slot (place_of (length bytes) v.plan.pieces) bytes w
         → Stands (record v { claims = claim (place_of (length bytes) v.plan.pieces) (length bytes) ∷ v.claims; plan = new }) slot after }
 {}
@@ -53,7 +57,8 @@ pub fn releases_stand()
 {}
 
 /// A track's entry that is staged keeps it standing, and so does a group's word. Where the entry names a space, that was claimed. The place
-/// of the file leaves, or the place that was staged before is given back.
+/// of the file leaves, or the place that was staged before is given back. A group gets a word where the file names no table at a multiple
+/// of 8 for it.
 pub fn stages_stand()
     ensures entry { (v : LayerView) (n : Stages) (rest : List Extent) (new : Plan) (slot : ℕ) (w : World) (t : ℕ) (e : L2Entry) → entry_for t v.stages.entries ≡ None → StagesEntry t e v.stages n → CanBeEntry v.layout v.stages (file_of w slot) t e → (IsPlace e.pos → v.claims ≡ claim e.pos e.size ∷ rest) → ((IsPlace e.pos → ⊥) → v.claims ≡ rest)
         → Becomes v.plan new (left_at (entry_at v.layout (file_of w slot) t).pos v.plan.pieces) v.plan.size → IsLaid 0 new.pieces new.size
@@ -63,7 +68,7 @@ pub fn stages_stand()
     ensures over_none { (v : LayerView) (n : Stages) (rest : List Extent) (slot : ℕ) (w : World) (t : ℕ) (e : L2Entry) (o : L2Entry) → entry_for t v.stages.entries ≡ Some o → (IsPlace o.pos → ⊥) → StagesEntry t e v.stages n → CanBeEntry v.layout v.stages (file_of w slot) t e → (IsPlace e.pos → v.claims ≡ claim e.pos e.size ∷ rest) → ((IsPlace e.pos → ⊥) → v.claims ≡ rest)
         → Stands v slot w → Stands (record v { stages = n; claims = rest }) slot w }
     ensures word { (v : LayerView) (n : Stages) (rest : List Extent) (new : Plan) (slot : ℕ) (w : World) (g pos : ℕ) → v.claims ≡ claim pos 2048 ∷ rest
-        → place_for g v.stages.words ≡ None → StagesWord g pos v.stages n → CanBeWord v.layout g pos
+        → place_for g v.stages.words ≡ None → StagesWord g pos v.stages n → CanBeWord v.layout g pos → (NamesAligned (word_at v.layout (file_of w slot) g) → ⊥)
         → Becomes v.plan new (left_at (word_at v.layout (file_of w slot) g) v.plan.pieces) v.plan.size → IsLaid 0 new.pieces new.size
         → Stands v slot w → Stands (record v { stages = n; claims = rest; plan = new }) slot w }
 {}
@@ -85,4 +90,13 @@ pub fn closes_stand()
     ensures keeps { (null : NullBytes) (d : Tracks) (later : List Later) (v : LayerView) (slot : ℕ) (old new : Seen) (c : CckdHeader) → FitsLayout v.layout c → Tells old
         → Stands v slot old.world → StopsLeave slot (IsClosingAs old.world.events slot v.plan.pieces v.plan.size c) old new
         → EachOutcome slot (Keeps null v.layout d later) old.world.events → AtEach old.world.events new.world.events (EachOutcome slot (Keeps null v.layout d later)) }
+{}
+
+/// A layer that lacks room for a write tells why, by its file alone. The groups are those that have a new table staged, and that of the
+/// track; and all is hardened only where nothing is staged.
+pub fn fulls_are_justified()
+    ensures { (s : LayerState) (w : World) (t : ℕ) (need : Option ℕ) (full : Full) (a : Attempt) → LacksRoom s w t need full → t / 256 < s.tables.layout.groups
+        → a.limit ≡ s.plan.limit → ((n : ℕ) → need ≡ Some n → n ≡ aligned_up a.given) → a.group ≡ t / 256
+        → ((g : ℕ) → IsMoved g s.tables.stages → IsOneOf g a.groups) → IsOneOf (t / 256) a.groups → (a.quiet ≡ true → s.tables.stages ≡ nothing_staged)
+        → IsJustified a s.tables.layout (file_of w s.slot) full }
 {}

@@ -1,5 +1,6 @@
 //! What a write needs before it changes anything: room among what is staged, the entry of its track, and places.
-ghost use Rattle.std.specs.Prelude.{◌≡◌, ◌⊎◌, ◌↔◌, ◌<◌, ◌≤◌, ◌/◌, ◌%◌, ◌^◌, [], List, length, IsTrue, IsSome, IfSome, IsOk, IfOk, OnOk, IfErr, OnErr, Ok, Err, None, true, false};
+ghost use Rattle.cckd_layer.specs.Justified.{StaysInRoom};
+ghost use Rattle.std.specs.Prelude.{◌≡◌, ◌⊎◌, ◌↔◌, ◌<◌, ◌≤◌, ◌/◌, ◌%◌, ◌^◌, [], List, length, IsTrue, IsSome, IfSome, IsOk, IfOk, OnOk, IfErr, OnErr, Ok, Err, None, true, false, max};
 ghost use Rattle.std.specs.Option.{is_some};
 ghost use Rattle.cckd_shelf.specs.Seen.{Seen, seen, Tells, Stays};
 ghost use Rattle.cckd_shelf.specs.World.{World, IsSure, file_of};
@@ -13,6 +14,7 @@ ghost use Rattle.cckd_layer.specs.Mounted.{CanRead, IsRoomy, with_tables};
 ghost use Rattle.cckd_layer.specs.Reads.{OfFile, OnlyReads, LooksUp, IsAtHand};
 ghost use Rattle.cckd_layer.specs.Writes.{Agrees, AgreesWith, AgreesIn, KeepsMap, KeepsMapWith, IsAct, IsSettled, CountsLayer, IsOutside, HaveNoPlaces, entry_now, claims_of, is_broken_by, with_plan};
 ghost use Rattle.cckd_layer.specs.Preparing.{HasNoneToFree, IsRoom, SuitsFile, IsDenial, IsDeniedFor, IsNoRoomIn, IsUnplaced, IsUnwritten, IsUntouched, FindsRoom};
+ghost use Rattle.cckd_layer.specs.Calm.{KeepsUnharmed};
 
 use crate::claiming::Places;
 use crate::hardening::fault_of;
@@ -78,7 +80,9 @@ impl<U: Unit> Layer<U> {
         ensures free { OnOk result (2 ≤ free_count self.new.tables.stages) }
         ensures still { 2 ≤ free_count self.old.tables.stages → IsOk result × (self.new ≡ self.old) × (seen T.Shows stage.new ≡ seen T.Shows stage.old) }
         ensures map { OnOk result (KeepsMap U.null_bytes self.old self.new (seen T.Shows stage.old) (seen T.Shows stage.new)) }
+        ensures marked { OnOk result (self.new.marked ≡ self.old.marked) }
         ensures act { IsAct [] U.null_bytes self.old self.new (seen T.Shows stage.old) (seen T.Shows stage.new) }
+        ensures confined { StaysInRoom self.old self.new }
         ensures broken { self.new.broken ≡ is_broken_by result }
         ensures read { result ≡ Err LayerFault.ReadFault → (self.new ≡ self.old) × Stays (seen T.Shows stage.old) (seen T.Shows stage.new) }
         ensures refusal { IfErr result IsOutside }
@@ -125,6 +129,7 @@ impl<U: Unit> Layer<U> {
         requires spare { 4 ≤ self.old.plan.spare }
         ensures rest { self.new ≡ with_plan self.old self.new.plan }
         ensures limit { self.new.plan.limit ≡ self.old.plan.limit }
+        ensures size { self.new.plan.size ≤ max self.old.plan.limit self.old.plan.size }
         ensures room { IfOk result (IsRoom self.new t.0 need) }
         ensures suits { Tells (seen T.Shows stage.old) → Agrees self.old (seen T.Shows stage.old).world
             → IfOk result (λ room. SuitsFile self.new t.0 room (seen T.Shows stage.new).world) }
@@ -166,6 +171,7 @@ impl<U: Unit> Layer<U> {
         requires need { IfSome need IsNeed }
         ensures rest { self.new ≡ with_plan self.old self.new.plan }
         ensures limit { self.new.plan.limit ≡ self.old.plan.limit }
+        ensures size { self.new.plan.size ≤ max self.old.plan.limit self.old.plan.size }
         ensures room { IfOk result (IsRoom self.new t.0 need) }
         ensures suits { Tells (seen T.Shows stage.old) → Agrees self.old (seen T.Shows stage.old).world
             → IfOk result (λ room. SuitsFile self.new t.0 room (seen T.Shows stage.new).world) }
@@ -205,6 +211,7 @@ impl<U: Unit> Layer<U> {
         requires need { IfSome need IsNeed }
         ensures rest { self.new ≡ with_plan self.old self.new.plan }
         ensures limit { self.new.plan.limit ≡ self.old.plan.limit }
+        ensures size { self.new.plan.size ≤ max self.old.plan.limit self.old.plan.size }
         ensures room { IfOk result (λ o. IfSome o (IsRoom self.new t.0 need)) }
         ensures suits { Tells (seen T.Shows stage.old) → Agrees self.old (seen T.Shows stage.old).world
             → IfOk result (λ o. IfSome o (λ room. SuitsFile self.new t.0 room (seen T.Shows stage.new).world)) }
@@ -255,9 +262,11 @@ impl<U: Unit> Layer<U> {
             → IfOk result (λ room. SuitsFile self.new t.0 room (seen T.Shows stage.new).world) }
         ensures map { IfOk result (λ room. KeepsMapWith [] (claims_of need room.places) U.null_bytes self.old self.new (seen T.Shows stage.old) (seen T.Shows stage.new)) }
         ensures kept { IfErr result (λ why. IsDenial why → KeepsMap U.null_bytes self.old self.new (seen T.Shows stage.old) (seen T.Shows stage.new)) }
+        ensures unharmed { IfErr result (λ why. IsDenial why → KeepsUnharmed self.old self.new (seen T.Shows stage.old) (seen T.Shows stage.new)) }
         ensures full { IfErr result (IsNoRoomIn self.old self.new (seen T.Shows stage.old) (seen T.Shows stage.new) t.0 need) }
         ensures kind { IfErr result IsUnwritten }
         ensures act { IsAct [] U.null_bytes self.old self.new (seen T.Shows stage.old) (seen T.Shows stage.new) }
+        ensures confined { StaysInRoom self.old self.new }
         ensures broken { self.new.broken ≡ is_broken_by result }
         ensures counts { CountsLayer result (seen T.Shows stage.old).faults (seen T.Shows stage.new).faults }
 

@@ -25,6 +25,7 @@ pub fn leave_place(space: &mut Space, pos: u32)
 /// file of `len` bytes.
 pub fn give_place_back(space: &mut Space, pos: u32, len: u32)
     ensures gives { MayGiveBack pos len space.old space.new }
+    ensures size { space.new.size ≤ space.old.size }
     ensures spent { space.old.spare ≤ space.new.spare }
     ensures sound { IsSound space.new }
 {

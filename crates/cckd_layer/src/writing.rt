@@ -1,4 +1,5 @@
 //! The writing of a track: its bytes go to a free place, and its entry is staged.
+ghost use Rattle.cckd_layer.specs.Justified.{StaysInRoom, AddsInRoom};
 ghost use Rattle.std.specs.Prelude.{◌≡◌, ◌⊎◌, ◌<◌, ◌≤◌, ◌+◌, ◌++◌, ◌/◌, ◌%◌, [], ℕ, List, length, take, IsSome, IsNone, IfSome, IfNone, IfOk, OnOk, IfErr, OnErr, Err, Some, None, true, false};
 ghost use Rattle.std.specs.Option.{is_some};
 ghost use Rattle.cckd_shelf.specs.Seen.{Seen, seen, Tells, Stays, Makes, MayMake, Fails};
@@ -21,6 +22,7 @@ ghost use Rattle.cckd_layer.specs.Storing.{stored_as, padded, need_of, entry_of_
 ghost use Rattle.cckd_base.specs.declared.fault.TrackFault.{TrackFault as Fault_of};
 ghost use Rattle.cckd_layer.specs.Preparing.{HasNoneToFree, IsRoom, IsDenial, IsUndone};
 ghost use Rattle.cckd_layer.specs.Marks.{WritesOrSyncs};
+ghost use Rattle.cckd_layer.specs.Calm.{KeepsUnharmed};
 
 use crate::hardening::fault_of;
 use crate::layer::Layer;
@@ -110,6 +112,7 @@ impl<U: Unit> Layer<U> {
         ensures rest { OnOk result (IsPut self.old self.new) }
         ensures map { (claims : List Space_of) → IsAmong (claim pos (aligned_up (length bytes.now))) claims
             → OnOk result (KeepsMapWith claims claims U.null_bytes self.old self.new (seen T.Shows stage.old) (seen T.Shows stage.new)) }
+        ensures confined { StaysInRoom self.old self.new }
         ensures failed { IfErr result (λ fault. (fault ≡ Device.Write) × (self.new ≡ failed_by Device.Write self.old)) }
         ensures counts { CountsDevice result (seen T.Shows stage.old).faults (seen T.Shows stage.new).faults }
         ensures stopped { (claims : List Space_of) → IsAmong (claim pos (aligned_up (length bytes.now))) claims
@@ -245,6 +248,7 @@ impl<U: Unit> Layer<U> {
             → OnOk result (IsPutTo place (stored_as U.value form bytes.now) (file_of (seen T.Shows stage.old).world self.old.slot) (file_of (seen T.Shows stage.new).world self.old.slot)) }
         ensures act { (claims : List Space_of) → IsClaimed place (aligned_up (length bytes.now)) claims
             → IsAct claims U.null_bytes self.old self.new (seen T.Shows stage.old) (seen T.Shows stage.new) }
+        ensures confined { StaysInRoom self.old self.new }
         ensures broken { self.old.broken ≡ false → self.new.broken ≡ breaks result }
         ensures kind { IfErr result WritesOrSyncs }
         ensures counts { CountsDevice result (seen T.Shows stage.old).faults (seen T.Shows stage.new).faults }
@@ -267,6 +271,7 @@ impl<U: Unit> Layer<U> {
         requires table { is_some table ≡ false → HasAlignedTable self.old.tables (t.0 / 256) }
         ensures rest { self.new ≡ record self.old { tables = self.new.tables; plan = self.new.plan; hardened = self.new.hardened } }
         ensures same { IsSameFile self.old self.new }
+        ensures confined { AddsInRoom (t.0 / 256) self.old self.new }
         ensures free { 0 < free_count self.new.tables.stages }
         ensures has { HasAlignedTable self.new.tables (t.0 / 256) }
         ensures entries { self.new.tables.stages.entries ≡ self.old.tables.stages.entries }
@@ -288,6 +293,7 @@ impl<U: Unit> Layer<U> {
         requires table { is_some table ≡ false → HasAlignedTable self.old.tables (t.0 / 256) }
         ensures rest { self.new ≡ record self.old { tables = self.new.tables; plan = self.new.plan; hardened = false } }
         ensures same { IsSameFile self.old self.new }
+        ensures confined { AddsInRoom (t.0 / 256) self.old self.new }
         ensures map { (claims : List Space_of) (w : Seen) → CanPlace claims self.old t.0 old table entry len w → Tells w
             → StoresIn [] U.null_bytes self.old self.new t.0 (bytes_by_entry U.null_bytes self.old.tables.layout (file_of w.world self.old.slot) t.0 entry) w w }
     {
@@ -315,8 +321,10 @@ impl<U: Unit> Layer<U> {
         ensures prepared { Tells (seen T.Shows stage.old) → Agrees self.old (seen T.Shows stage.old).world
             → IfOk result (IsPrepared U.null_bytes self.old self.new t.0 (seen T.Shows stage.old) (seen T.Shows stage.new)) }
         ensures kept { IfErr result (λ why. IsDenial why → KeepsMap U.null_bytes self.old self.new (seen T.Shows stage.old) (seen T.Shows stage.new)) }
+        ensures unharmed { IfErr result (λ why. IsDenial why → KeepsUnharmed self.old self.new (seen T.Shows stage.old) (seen T.Shows stage.new)) }
         ensures refusal { IfErr result (IsStoreRefusal U.null_bytes self.old self.new (seen T.Shows stage.old) (seen T.Shows stage.new) t.0 (stored_as U.value form bytes.now)) }
         ensures act { IsAct [] U.null_bytes self.old self.new (seen T.Shows stage.old) (seen T.Shows stage.new) }
+        ensures confined { StaysInRoom self.old self.new }
         ensures broken { self.new.broken ≡ is_broken_by result }
         ensures counts { CountsLayer result (seen T.Shows stage.old).faults (seen T.Shows stage.new).faults }
         ensures still { 2 ≤ free_count self.old.tables.stages → HasNoneToFree self.old.plan → 4 ≤ self.old.plan.spare → IsUndone self.old self.new (seen T.Shows stage.old) (seen T.Shows stage.new) }
@@ -352,7 +360,10 @@ impl<U: Unit> Layer<U> {
         requires agrees { AgreesIn self.old (seen T.Shows stage.old) }
         ensures stores { OnOk result (StoresTrack U.null_bytes self.old self.new t.0 (stored_as U.value form bytes.now) (seen T.Shows stage.old) (seen T.Shows stage.new)) }
         ensures marked { OnOk result (self.new.marked ≡ true) }
+        ensures grows { OnOk result (AddsInRoom (t.0 / 256) self.old self.new) }
+        ensures stays { IfErr result (λ why. IsDenial why → StaysInRoom self.old self.new) }
         ensures kept { IfErr result (λ why. IsDenial why → KeepsMap U.null_bytes self.old self.new (seen T.Shows stage.old) (seen T.Shows stage.new)) }
+        ensures unharmed { IfErr result (λ why. IsDenial why → KeepsUnharmed self.old self.new (seen T.Shows stage.old) (seen T.Shows stage.new)) }
         ensures refusal { IfErr result (IsStoreRefusal U.null_bytes self.old self.new (seen T.Shows stage.old) (seen T.Shows stage.new) t.0 (stored_as U.value form bytes.now)) }
         ensures act { IsAct [] U.null_bytes self.old self.new (seen T.Shows stage.old) (seen T.Shows stage.new) }
         ensures broken { self.new.broken ≡ is_broken_by result }
@@ -398,6 +409,8 @@ impl<U: Unit> Layer<U> {
         // It is refused for want of room, with which all is kept, and by a call that failed: where that was one that reads,
         // all is kept, and any other breaks the layer.
         ensures refusal { IfErr result (IsStoreRefusal U.null_bytes self.old self.new (seen T.Shows stage.old) (seen T.Shows stage.new) t.0 bytes.now) }
+        ensures grows { OnOk result (AddsInRoom (t.0 / 256) self.old self.new) }
+        ensures stays { IfErr result (λ why. IsDenial why → StaysInRoom self.old self.new) }
         ensures kept { IfErr result (λ why. IsDenial why → KeepsMap U.null_bytes self.old self.new (seen T.Shows stage.old) (seen T.Shows stage.new)) }
         ensures still { 2 ≤ free_count self.old.tables.stages → HasNoneToFree self.old.plan → 4 ≤ self.old.plan.spare
             → IfErr result (λ why. IsDenial why → IsUndone self.old self.new (seen T.Shows stage.old) (seen T.Shows stage.new)) }
@@ -437,7 +450,10 @@ impl<U: Unit> Layer<U> {
         ensures refusal { IfErr result (IsWriteRefusal U.null_bytes (U.fault self.old.tables.layout.geo t.0 bytes.now) self.old self.new (seen T.Shows stage.old) (seen T.Shows stage.new) t.0 (U.value bytes.now)) }
         ensures refused { (why : Fault_of) → U.fault self.old.tables.layout.geo t.0 bytes.now ≡ Some why
             → (result ≡ Err (LayerFault.Track why)) × (self.new ≡ self.old) × (seen T.Shows stage.new ≡ seen T.Shows stage.old) }
+        ensures grows { OnOk result (AddsInRoom (t.0 / 256) self.old self.new) }
+        ensures stays { IfErr result (λ why. IsHarmless why → StaysInRoom self.old self.new) }
         ensures kept { IfErr result (λ why. IsHarmless why → KeepsMap U.null_bytes self.old self.new (seen T.Shows stage.old) (seen T.Shows stage.new)) }
+        ensures unharmed { IfErr result (λ why. IsHarmless why → KeepsUnharmed self.old self.new (seen T.Shows stage.old) (seen T.Shows stage.new)) }
         ensures still { 2 ≤ free_count self.old.tables.stages → HasNoneToFree self.old.plan → 4 ≤ self.old.plan.spare
             → IfErr result (λ why. IsHarmless why → IsUndone self.old self.new (seen T.Shows stage.old) (seen T.Shows stage.new)) }
         ensures broken { self.new.broken ≡ is_broken_by result }

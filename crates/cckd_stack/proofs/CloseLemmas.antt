@@ -1,4 +1,7 @@
 -- Layers closed one after another, the last one first.
+use Rattle.cckd_layer.proofs.InRoomLemmas.{room_same, room_then}
+use Rattle.cckd_layer.specs.Justified.{StaysInRoom}
+use Rattle.cckd_stack.specs.Room.{StayInRoom}
 use Rattle.std.proofs.Common.{◌≡◌, ⊎_elim, ℕ, zero, suc, ◌+◌, ◌<◌, ◌≤◌, true, false, List, [], ◌∷◌, length, drop, get_or, set, refl, sym, ◌∙◌, ap, subst, arith}
 use Rattle.std.specs.List.{AllByRecursion}
 use Rattle.std.proofs.Math.Seq.{drop-cons, drop-length}
@@ -23,6 +26,8 @@ use Rattle.cckd_stack.specs.Moments.{EachOpens}
 use Rattle.cckd_stack.specs.Stacked.{IsLayerIn, AreLayersFrom, AreWhole, CanReadAll}
 use Rattle.cckd_stack.specs.Writes.{AgreeAll, KeepsStackBy, KeepsStack, KeepsEach, KeepsLayer, IsUnchanged, AreUnchanged, HasNoChange, SparesUnchanged, OnlyInChanged, IsClosedIn, AreSameFiles, StopsLie, StopsSettle, all_hardened}
 use Rattle.cckd_layer.proofs.SureLemmas.{sure_spared}
+use Rattle.cckd_stack.specs.Marking.{KeepMarks, KeepsMark}
+use Rattle.cckd_stack.proofs.MarkingLemmas.{marks_twice, set_marks}
 use Rattle.cckd_stack.proofs.LayerListLemmas.{all_at, all_set, layer_at}
 use Rattle.cckd_stack.proofs.WritesLemmas.{still_ties, set_lies, set_settles, kept_hardening, settled_hardening}
 use Rattle.cckd_stack.proofs.LowerLemmas.{lower_lies, any_keeps}
@@ -48,6 +53,17 @@ files_set [] (k ∷ ks) n x y is same files = absurd files
 files_set (s ∷ ss) [] n x y is same files = absurd files
 files_set (s ∷ ss) (k ∷ ks) zero x y is same files = (same_twice s k y files.0 (subst (λ (z : LayerState). IsSameFile z y) is same), files.1)
 files_set (s ∷ ss) (k ∷ ks) (suc n) x y is same files = (files.0, files_set ss ks n x y is same files.1)
+
+same_rooms : (layers : List LayerState) → StayInRoom layers layers
+same_rooms [] = tt
+same_rooms (s ∷ ss) = (room_same s, same_rooms ss)
+
+rooms_set : (start now : List LayerState) (n : ℕ) (x y : LayerState) → x ≡ get_or now n x → StaysInRoom x y → AreSameFiles start now → StayInRoom start now → StayInRoom start (set now n y)
+rooms_set [] [] n x y is room files rooms = tt
+rooms_set [] (k ∷ ks) n x y is room files rooms = absurd rooms
+rooms_set (s ∷ ss) [] n x y is room files rooms = absurd rooms
+rooms_set (s ∷ ss) (k ∷ ks) zero x y is room files rooms = (room_then s k y files.0 rooms.0 (subst (λ (z : LayerState). StaysInRoom z y) is room), rooms.1)
+rooms_set (s ∷ ss) (k ∷ ks) (suc n) x y is room files rooms = (rooms.0, rooms_set ss ks n x y is room files.1 rooms.1)
 
 layers_set : (g : Geometry) (slot : ℕ) (layers : List LayerState) (n : ℕ) (x y : LayerState) → x ≡ get_or layers n x → IsSameFile x y → AreLayersFrom g slot layers
     → AreLayersFrom g slot (set layers n y)
@@ -180,9 +196,11 @@ pub record HasClosed (null : NullBytes) (g : Geometry) (start now : List LayerSt
   pub slots : AreLayersFrom g 0 now
   pub whole : AreWhole now
   pub files : AreSameFiles start now
+  pub room : StayInRoom start now
   pub below : (i : ℕ) (d : LayerState) → i < left → get_or now i d ≡ get_or start i d
   pub keeps : KeepsEach null start now a b
   pub lies : StopsLie null g start a b
+  pub marks : KeepMarks start now a b
   pub settled : left < length start → StopsSettle null g start a b
   pub spares : OnlyInChanged start a b
   pub calm : (slot : ℕ) → HasNoChange start slot → HasNoChange now slot
@@ -201,9 +219,11 @@ none_closed null g start a left e are whole can =
       slots = are;
       whole = whole;
       files = same_files start;
+      room = same_rooms start;
       below = λ i d low. refl;
       keeps = record { agreed = λ told agree. record { agree = agree; are = refl }; tied = λ told tied. record { agree = tied; are = refl } };
       lies = λ was has. at_once (EachOpens g (Lies was.hard was.later)) a.world.events has.hardened.stops;
+      marks = λ base told agree marks. marks;
       settled = λ low. absurd (omega (arith, e, low));
       spares = λ told. spares_none start a.world;
       calm = λ slot calm. calm;
@@ -248,6 +268,9 @@ module _ (null : NullBytes) (g : Geometry) (start now : List LayerState) (a b : 
       pub next_files : AreSameFiles start (set now n y)
       next_files = files_set start now n x y is same was.files
 
+      pub next_room : StaysInRoom x y → StayInRoom start (set now n y)
+      next_room room = rooms_set start now n x y is room was.files was.room
+
       pub next_whole : y.broken ≡ false → AreWhole (set now n y)
       next_whole h = all_set (λ (s : LayerState). s.broken ≡ false) now n y was.whole h
 
@@ -262,6 +285,10 @@ module _ (null : NullBytes) (g : Geometry) (start now : List LayerState) (a b : 
 
       pub next_lies : StopsWithin null x b c → StopsLie null g start a c
       next_lies stopped = lies_twice null g start now a b c tells was.keeps.agreed was.lies (step_lies stopped)
+
+      -- its mark, and those of the others
+      pub next_marks : KeepsMark x y b c → KeepMarks start (set now n y) a c
+      next_marks keeps = marks_twice start now (set now n y) a b c tells (λ told agree. (was.keeps.agreed told agree).agree) was.marks (set_marks g now n x y b c is inside was.slots others keeps)
 
       pub next_spares : (x.marked ≡ false → x.hardened ≡ true → c.world ≡ b.world) → OnlyInChanged start a c
       next_spares still = λ told.
@@ -323,16 +350,18 @@ module _ (null : NullBytes) (g : Geometry) (start now : List LayerState) (a b : 
           (record { unmarked = unmarked; hardened = hardened }, subst (λ (k : ℕ). AllByRecursion IsUnchanged (drop k now)) (sym more) was.unchanged)
 
       -- one more was closed
-      pub one_closed : (more : ℕ) → more ≡ n → AreLayersFrom g 0 start → KeepsMap null x y b c → StopsWithin null x b c → StopHolds null x b c
+      pub one_closed : (more : ℕ) → more ≡ n → AreLayersFrom g 0 start → StaysInRoom x y → KeepsMark x y b c → KeepsMap null x y b c → StopsWithin null x b c → StopHolds null x b c
           → (Tells b → Agrees x b.world → x.marked ≡ true → StaysClosed x.tables.layout x.slot c.world) → (x.marked ≡ false → x.hardened ≡ true → (y ≡ x) × (c ≡ b))
           → y.marked ≡ false → y.hardened ≡ true → y.broken ≡ false → c.faults ≡ b.faults → HasClosed null g start (set now n y) a c more
-      one_closed more e are map stopped holds closed still unmarked hardened whole counts = subst (HasClosed null g start (set now n y) a c) (sym e) (record {
+      one_closed more e are room keeps map stopped holds closed still unmarked hardened whole counts = subst (HasClosed null g start (set now n y) a c) (sym e) (record {
         slots = next_slots;
         whole = next_whole whole;
         files = next_files;
+        room = next_room room;
         below = λ i d less. get_or-set_other now n i y d (λ j. absurd (omega (arith, j, less))) ∙ was.below i d (omega (arith, less, next));
         keeps = next_keeps map still;
         lies = next_lies stopped;
+        marks = next_marks keeps;
         settled = λ less. next_settled stopped holds;
         spares = next_spares (λ unmarked fast. ap (λ (s : Seen). s.world) (still unmarked fast).1);
         calm = next_calm (λ unmarked fast. (still unmarked fast).0);

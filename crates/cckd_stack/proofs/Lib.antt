@@ -19,3 +19,4 @@ pub mod TiedLemmas
 pub mod CountedLemmas
 pub mod CheckLemmas
 pub mod OpenedLemmas
+pub mod MarkingLemmas

@@ -1,5 +1,9 @@
 -- A layer that is made ready for a write, and then written.
-use Rattle.std.proofs.Common.{◌≡◌, ℕ, ◌<◌, true, List, [], Option, Some, None, Result, Ok, Err, OnOk, IfErr, refl, sym, ◌∙◌, ap, subst, inl}
+use Rattle.cckd_layer.proofs.InRoomLemmas.{room_adds, room_then}
+use Rattle.cckd_stack.specs.Room.{LacksPlace, IsNoFull}
+use Rattle.cckd_layer.specs.Justified.{StaysInRoom, AddsInRoom}
+use Rattle.cckd_tables.specs.Staging.{Stages, IsMoved}
+use Rattle.std.proofs.Common.{◌≡◌, ℕ, ◌<◌, true, List, [], Option, Some, None, Result, Ok, Err, OnOk, IfErr, refl, sym, ◌∙◌, ap, subst, inl, arith}
 use Rattle.cckd_base.specs.declared.geometry.Geometry.{Geometry}
 use Rattle.cckd_base.specs.declared.geometry.Layout.{Layout}
 use Rattle.cckd_base.specs.declared.fault.TrackFault.{TrackFault}
@@ -26,6 +30,14 @@ beside_file s next h = record {
   slot = ap (λ (x : LayerState). x.slot) h.rest;
   layout = h.layout;
   limit = ap (λ (x : LayerState). x.plan.limit) h.rest;
+}
+
+-- completing stages nothing
+pub beside_room : (s next : LayerState) → IsSameBeside s next → StaysInRoom s next
+beside_room s next h = record {
+  tables = λ g moved. subst (λ (st : Stages). IsMoved g st) h.stages moved;
+  empty = λ none. h.stages ∙ none;
+  size = (let e = ap (λ (x : LayerState). x.plan.size) h.rest in omega (arith, e));
 }
 
 pub same_file_of : (s : LayerState) → IsSameFile s s
@@ -141,6 +153,43 @@ module _ (null : NullBytes) (s m n : LayerState) (a b c : Seen) (tells : Tells a
         (here d later (tells told) own
         (subst (λ (w : World). LiesWithin (track_count l.geo) d later (held null l s.tables.stages (file_of w s.slot))) (sym u.world) lies)
         (subst (λ (w : World). P w.events) (sym u.world) each))
+
+    -- it lacks room, where it is tied alone
+    pub ready_lacks : {A : Type 0} (result : Result A LayerFault) (found : Option TrackFault) (t : ℕ) (bytes : List ℕ) → IfErr result (IsWriteRefusal null found m n b c t bytes) → IsSameFile m n → Tells a → IsSure a.world
+        → IfErr result (LacksPlace null n c t bytes)
+    ready_lacks (Ok ok) found t bytes h then told sure = tt
+    ready_lacks (Err (fault.Track why)) found t bytes h then told sure = tt
+    ready_lacks (Err fault.ReadFault) found t bytes h then told sure = tt
+    ready_lacks (Err fault.WriteFault) found t bytes h then told sure = tt
+    ready_lacks (Err fault.SyncFault) found t bytes h then told sure = tt
+    ready_lacks (Err (fault.Full full)) found t bytes h then told sure =
+        let r = h.1 (tells told) (done told sure).agrees in
+        (r.0, subst (λ (l : Layout). IsStoredOf null l.geo t bytes r.0) (sym then.layout) r.1, r.2)
+
+    -- it stages what the write stages
+    pub ready_grows : {A B : Type 0} (result : Result A B) (g : ℕ) → StaysInRoom s m → OnOk result (AddsInRoom g m n) → OnOk result (AddsInRoom g s n)
+    ready_grows (Ok ok) g room grows = room_adds g s m n same room grows
+    ready_grows (Err why) g room grows = tt
+
+    pub ready_stays : {A : Type 0} (result : Result A LayerFault) → StaysInRoom s m → IfErr result (λ why. IsHarmless why → StaysInRoom m n) → IfErr result (λ why. IsHarmless why → StaysInRoom s n)
+    ready_stays (Ok ok) room stays = tt
+    ready_stays (Err why) room stays = λ harmless. room_then s m n same room (stays harmless)
+
+-- a fault of another kind isn't want of room
+pub kind_lacks : (null : NullBytes) (m : LayerState) (b : Seen) (t : ℕ) (bytes : List ℕ) (why : LayerFault) → IsNoFull why → LacksPlace null m b t bytes why
+kind_lacks null m b t bytes (fault.Full full) kind = absurd kind
+kind_lacks null m b t bytes (fault.Track why) kind = tt
+kind_lacks null m b t bytes fault.ReadFault kind = tt
+kind_lacks null m b t bytes fault.WriteFault kind = tt
+kind_lacks null m b t bytes fault.SyncFault kind = tt
+
+pub outside_kind : (result : Result (Unit {0}) LayerFault) → IfErr result IsOutside → IfErr result IsNoFull
+outside_kind (Ok done) outside = tt
+outside_kind (Err (fault.Full full)) outside = absurd outside
+outside_kind (Err (fault.Track why)) outside = absurd outside
+outside_kind (Err fault.ReadFault) outside = tt
+outside_kind (Err fault.WriteFault) outside = tt
+outside_kind (Err fault.SyncFault) outside = tt
 
 -- ---- it wasn't made ready
 

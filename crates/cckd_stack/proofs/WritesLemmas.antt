@@ -1,4 +1,6 @@
 -- What a call that writes makes of a stack, from what it makes of the last layer.
+use Rattle.cckd_stack.specs.Room.{LacksPlace}
+use Rattle.cckd_layer.specs.Justified.{StaysInRoom, AddsInRoom}
 use Rattle.std.proofs.Common.{◌≡◌, ⊎_elim, ℕ, suc, ◌<◌, ◌≤◌, ◌==◌, cond, Bool, true, false, List, [], ◌∷◌, ◌++◌, length, take, get_or, set, Option, Some, None, Result, Ok, Err, OnOk, IfErr, refl, sym, ◌∙◌, ap, subst, inl, inr, arith}
 use Rattle.std.proofs.Math.Path.{fun_ext}
 use Rattle.std.proofs.lemmas.List.{length-append}
@@ -297,6 +299,23 @@ module _ (layers : List LayerState) (n : ℕ) (x y : LayerState) (is : x ≡ get
   pub set_ends : {A B : Type 0} (P : LayerState → Type 0) (result : Result A B) → OnOk result (P y) → OnOk result (EndsWith P (set layers n y))
   set_ends P (Ok a) h = record { lower = take n layers; last = y; layers_are = last_set layers n y end; holds = h }
   set_ends P (Err why) h = tt
+
+  pub set_grows : {A B : Type 0} (g : ℕ) (result : Result A B) → OnOk result (AddsInRoom g x y) → OnOk result (ChangesLast (AddsInRoom g) layers (set layers n y))
+  set_grows g (Ok a) h = set_last (AddsInRoom g) h
+  set_grows g (Err why) h = tt
+
+  pub set_stays : {A : Type 0} (result : Result A LayerFault) → is_layer_broken_by result ≡ false → IfErr result (λ why. IsHarmless why → StaysInRoom x y) → IfErr result (λ why. ChangesLast StaysInRoom layers (set layers n y))
+  set_stays (Ok a) whole h = tt
+  set_stays (Err (fault.Track why)) whole h = set_last StaysInRoom (h tt)
+  set_stays (Err (fault.Full full)) whole h = set_last StaysInRoom (h tt)
+  set_stays (Err fault.ReadFault) whole h = set_last StaysInRoom (h tt)
+  set_stays (Err fault.WriteFault) whole h = absurd (false≢true (sym whole))
+  set_stays (Err fault.SyncFault) whole h = absurd (false≢true (sym whole))
+
+  pub set_lacks : {A : Type 0} (null : NullBytes) (new : Seen) (t : ℕ) (bytes : List ℕ) (result : Result A LayerFault) → IfErr result (LacksPlace null y new t bytes)
+      → IfErr result (λ why. EndsWith (λ layer. LacksPlace null layer new t bytes why) (set layers n y))
+  set_lacks null new t bytes (Ok a) h = tt
+  set_lacks null new t bytes (Err why) h = record { lower = take n layers; last = y; layers_are = last_set layers n y end; holds = h }
 
   both_lists : (P : List LayerState → List LayerState → Type 0) → P (take n layers ++ x ∷ []) (take n layers ++ y ∷ []) → P layers (set layers n y)
   both_lists P h =

@@ -11,3 +11,5 @@ pub mod Tops
 pub mod Stacked
 pub mod Mounting
 pub mod Writes
+pub mod Room
+pub mod Marking

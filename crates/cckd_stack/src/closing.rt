@@ -1,8 +1,10 @@
 //! Closing: the files that were changed are closed images, and all that was written is on the disk for good.
+ghost use Rattle.cckd_stack.specs.Room.{StayInRoom};
 ghost use Rattle.std.specs.Prelude.{◌≡◌, ◌≤◌, ℕ, length, false, IsOk, OnOk, IfErr};
 ghost use Rattle.cckd_shelf.specs.Seen.{seen};
 ghost use Rattle.cckd_layer.specs.Writes.{IsOutside, CountsLayer, is_broken_by as is_layer_broken_by};
 ghost use Rattle.cckd_stack.specs.Stacked.{AreLayersFrom, AreWhole, CanReadAll, InLayer, CountsFault};
+ghost use Rattle.cckd_stack.specs.Marking.{KeepMarks};
 ghost use Rattle.cckd_stack.specs.Writes.{KeepsEach, AreUnchanged, HasNoChange, OnlyInChanged, ClosesChanged, AreSameFiles, StopsLie, StopsSettle, is_broken_by};
 
 use crate::hardening::breaks;
@@ -25,8 +27,10 @@ fn close_each<U: Unit, T: Stage>(
     ensures unchanged { OnOk result (AreUnchanged layers.new) }
     ensures settles { OnOk result (StopsSettle U.null_bytes geo.now layers.old (seen T.Shows stage.old) (seen T.Shows stage.new)) }
     ensures map { is_layer_broken_by result ≡ false → KeepsEach U.null_bytes layers.old layers.new (seen T.Shows stage.old) (seen T.Shows stage.new) }
+    ensures marks { is_layer_broken_by result ≡ false → KeepMarks layers.old layers.new (seen T.Shows stage.old) (seen T.Shows stage.new) }
     ensures still { AreUnchanged layers.old → IsOk result × (layers.new ≡ layers.old) × (seen T.Shows stage.new ≡ seen T.Shows stage.old) }
     ensures files { AreSameFiles layers.old layers.new }
+    ensures confined { StayInRoom layers.old layers.new }
     ensures layers { AreLayersFrom geo.now 0 layers.new }
     ensures whole { is_layer_broken_by result ≡ false → AreWhole layers.new }
     ensures refusal { IfErr result IsOutside }
@@ -57,8 +61,10 @@ impl<U: Unit> Stack<U> {
         ensures unchanged { OnOk result (AreUnchanged self.new.layers) }
         ensures settles { OnOk result (StopsSettle U.null_bytes self.old.geometry self.old.layers (seen T.Shows stage.old) (seen T.Shows stage.new)) }
         ensures map { self.new.broken ≡ false → KeepsEach U.null_bytes self.old.layers self.new.layers (seen T.Shows stage.old) (seen T.Shows stage.new) }
+        ensures marks { self.new.broken ≡ false → KeepMarks self.old.layers self.new.layers (seen T.Shows stage.old) (seen T.Shows stage.new) }
         ensures still { AreUnchanged self.old.layers → IsOk result × (self.new ≡ self.old) × (seen T.Shows stage.new ≡ seen T.Shows stage.old) }
         ensures files { AreSameFiles self.old.layers self.new.layers }
+        ensures confined { StayInRoom self.old.layers self.new.layers }
         ensures geometry { self.new.geometry ≡ self.old.geometry }
 
         // A fault of reading leaves it as it is, though some files may be closed; any other breaks the stack.

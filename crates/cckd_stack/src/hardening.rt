@@ -1,9 +1,11 @@
 //! Hardening: all that was written to a stack is on the disk for good.
+ghost use Rattle.cckd_layer.specs.Justified.{StaysInRoom};
 ghost use Rattle.std.specs.Prelude.{◌≡◌, ◌-◌, ◌≤◌, length, false, Err, IsOk, OnOk, IfErr};
 ghost use Rattle.cckd_shelf.specs.Seen.{seen, Stays};
 ghost use Rattle.cckd_shelf.specs.Frame.{OnlyIn};
 ghost use Rattle.cckd_layer.specs.Writes.{IsSameLayer, IsOutside, CountsLayer, is_broken_by as is_layer_broken_by};
 ghost use Rattle.cckd_stack.specs.Stacked.{AreLayersFrom, AreWhole, CanReadAll, InLayer, CountsFault};
+ghost use Rattle.cckd_stack.specs.Marking.{KeepMarks};
 ghost use Rattle.cckd_stack.specs.Writes.{KeepsEach, IsHardenedLast, ChangesLast, StopsLie, StopsSettle, breaks_layer, is_broken_by};
 
 use crate::stack::Stack;
@@ -25,6 +27,8 @@ fn harden_last<U: Unit, T: Stage>(
     ensures hardened { OnOk result (IsHardenedLast layers.new) }
     ensures map { is_layer_broken_by result ≡ false → KeepsEach U.null_bytes layers.old layers.new (seen T.Shows stage.old) (seen T.Shows stage.new) }
     ensures last { ChangesLast IsSameLayer layers.old layers.new }
+    ensures confined { ChangesLast StaysInRoom layers.old layers.new }
+    ensures marks { is_layer_broken_by result ≡ false → KeepMarks layers.old layers.new (seen T.Shows stage.old) (seen T.Shows stage.new) }
     ensures layers { AreLayersFrom geo.now 0 layers.new }
     ensures still { IsHardenedLast layers.old → IsOk result × (layers.new ≡ layers.old) × (seen T.Shows stage.new ≡ seen T.Shows stage.old) }
     ensures whole { is_layer_broken_by result ≡ false → AreWhole layers.new }
@@ -57,6 +61,8 @@ impl<U: Unit> Stack<U> {
         ensures hardened { OnOk result (IsHardenedLast self.new.layers) }
         ensures map { self.new.broken ≡ false → KeepsEach U.null_bytes self.old.layers self.new.layers (seen T.Shows stage.old) (seen T.Shows stage.new) }
         ensures last { ChangesLast IsSameLayer self.old.layers self.new.layers }
+        ensures confined { ChangesLast StaysInRoom self.old.layers self.new.layers }
+        ensures marks { self.new.broken ≡ false → KeepMarks self.old.layers self.new.layers (seen T.Shows stage.old) (seen T.Shows stage.new) }
         ensures geometry { self.new.geometry ≡ self.old.geometry }
         ensures still { IsHardenedLast self.old.layers → IsOk result × (self.new ≡ self.old) × (seen T.Shows stage.new ≡ seen T.Shows stage.old) }
 

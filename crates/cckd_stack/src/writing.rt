@@ -1,5 +1,7 @@
 //! Writing: a track of the last layer gets other bytes.
-ghost use Rattle.std.specs.Prelude.{◌≡◌, [], ◌-◌, ◌<◌, ◌≤◌, length, true, false, Some, None, Err, OnOk, IfErr};
+ghost use Rattle.cckd_stack.specs.Room.{LacksPlace, IsNoFull};
+ghost use Rattle.cckd_layer.specs.Justified.{StaysInRoom, AddsInRoom};
+ghost use Rattle.std.specs.Prelude.{◌≡◌, [], ◌-◌, ◌<◌, ◌≤◌, length, true, false, Some, None, Err, OnOk, IfErr, ◌/◌};
 ghost use Rattle.cckd_shelf.specs.Seen.{seen, Tells};
 ghost use Rattle.cckd_shelf.specs.World.{IsSure};
 ghost use Rattle.cckd_shelf.specs.Frame.{OnlyIn};
@@ -9,6 +11,8 @@ ghost use Rattle.cckd_layer.specs.Writes.{Agrees, IsSameFile, StoresIn, StopsWit
 ghost use Rattle.cckd_layer.specs.Storing.{IsHarmless, IsWriteRefusal};
 ghost use Rattle.cckd_layer.specs.Loose.{Tied, TiedIn, Completes, IsUndisturbed, IsOnlyLooked};
 ghost use Rattle.cckd_stack.specs.Stacked.{AreLayersFrom, AreWhole, InLayer, CountsFault};
+ghost use Rattle.cckd_layer.specs.Calm.{KeepsUnharmed};
+ghost use Rattle.cckd_stack.specs.Marking.{KeepMarks};
 ghost use Rattle.cckd_stack.specs.Writes.{AreTied, KeepsEach, KeepsLayer, StoresEach, EndsWith, ChangesLast, StopsLie, IsWriteRefused, is_broken_by};
 
 use crate::hardening::breaks;
@@ -36,6 +40,8 @@ fn ready<U: Unit, T: Stage>(
         → IfErr result (λ fault. fault ≡ LayerFault.Track why) × (layer.new ≡ layer.old) × (seen T.Shows stage.new ≡ seen T.Shows stage.old) }
     ensures refusal { IfErr result (IsWriteRefusal U.null_bytes (U.fault layer.old.tables.layout.geo t.0 bytes.now) layer.old layer.new (seen T.Shows stage.old) (seen T.Shows stage.new) t.0 (U.value bytes.now)) }
     ensures same { IsSameFile layer.old layer.new }
+    ensures kind { IfErr result IsNoFull }
+    ensures confined { StaysInRoom layer.old layer.new }
     ensures broken { layer.new.broken ≡ is_layer_broken_by result }
     ensures counts { CountsLayer result (seen T.Shows stage.old).faults (seen T.Shows stage.new).faults }
     ensures others { OnlyIn layer.old.slot (seen T.Shows stage.old) (seen T.Shows stage.new) }
@@ -66,10 +72,15 @@ fn write_ready<U: Unit, T: Stage>(
     ensures checked { OnOk result (U.fault layer.old.tables.layout.geo t.0 bytes.now ≡ None) }
     ensures marked { OnOk result (layer.new.marked ≡ true) }
     ensures kept { IfErr result (λ why. IsHarmless why → KeepsLayer U.null_bytes layer.old layer.new (seen T.Shows stage.old) (seen T.Shows stage.new)) }
+    ensures unharmed { IfErr result (λ why. IsHarmless why → KeepsUnharmed layer.old layer.new (seen T.Shows stage.old) (seen T.Shows stage.new)) }
     ensures refused { (why : Fault_of) → U.fault layer.old.tables.layout.geo t.0 bytes.now ≡ Some why
         → (result ≡ Err (LayerFault.Track why)) × (layer.new ≡ layer.old) × (seen T.Shows stage.new ≡ seen T.Shows stage.old) }
     ensures refusal { IfErr result (IsWriteRefusal U.null_bytes (U.fault layer.old.tables.layout.geo t.0 bytes.now) layer.old layer.new (seen T.Shows stage.old) (seen T.Shows stage.new) t.0 (U.value bytes.now)) }
     ensures same { IsSameFile layer.old layer.new }
+    ensures grows { OnOk result (AddsInRoom (t.0 / 256) layer.old layer.new) }
+    ensures stays { IfErr result (λ why. IsHarmless why → StaysInRoom layer.old layer.new) }
+    ensures lacks { Tells (seen T.Shows stage.old) → IsSure (seen T.Shows stage.old).world
+        → IfErr result (LacksPlace U.null_bytes layer.new (seen T.Shows stage.new) t.0 (U.value bytes.now)) }
     ensures broken { layer.new.broken ≡ is_layer_broken_by result }
     ensures counts { CountsLayer result (seen T.Shows stage.old).faults (seen T.Shows stage.new).faults }
     ensures stopped { StopsWithin U.null_bytes layer.old (seen T.Shows stage.old) (seen T.Shows stage.new) }
@@ -98,11 +109,16 @@ fn write_last<U: Unit, T: Stage>(
     ensures stores { OnOk result (StoresEach U.null_bytes (t.0, U.value bytes.now) layers.old layers.new (seen T.Shows stage.old) (seen T.Shows stage.new)) }
     ensures checked { OnOk result (U.fault geo.now t.0 bytes.now ≡ None) }
     ensures marked { OnOk result (EndsWith (λ layer. layer.marked ≡ true) layers.new) }
+    ensures marks { is_layer_broken_by result ≡ false → KeepMarks layers.old layers.new (seen T.Shows stage.old) (seen T.Shows stage.new) }
     ensures refused { (why : Fault_of) → U.fault geo.now t.0 bytes.now ≡ Some why
         → (result ≡ Err (LayerFault.Track why)) × (layers.new ≡ layers.old) × (seen T.Shows stage.new ≡ seen T.Shows stage.old) }
     ensures map { is_layer_broken_by result ≡ false → IfErr result (λ why. KeepsEach U.null_bytes layers.old layers.new (seen T.Shows stage.old) (seen T.Shows stage.new)) }
     ensures refusal { IfErr result (IsWriteRefused U.null_bytes (U.fault geo.now t.0 bytes.now) layers.old layers.new (seen T.Shows stage.old) (seen T.Shows stage.new) t.0 (U.value bytes.now)) }
     ensures last { ChangesLast IsSameFile layers.old layers.new }
+    ensures grows { OnOk result (ChangesLast (AddsInRoom (t.0 / 256)) layers.old layers.new) }
+    ensures stays { is_layer_broken_by result ≡ false → IfErr result (λ why. ChangesLast StaysInRoom layers.old layers.new) }
+    ensures lacks { Tells (seen T.Shows stage.old) → IsSure (seen T.Shows stage.old).world
+        → IfErr result (λ why. EndsWith (λ layer. LacksPlace U.null_bytes layer (seen T.Shows stage.new) t.0 (U.value bytes.now) why) layers.new) }
     ensures layers { AreLayersFrom geo.now 0 layers.new }
     ensures whole { is_layer_broken_by result ≡ false → AreWhole layers.new }
     ensures counts { CountsLayer result (seen T.Shows stage.old).faults (seen T.Shows stage.new).faults }
@@ -131,7 +147,9 @@ impl<U: Unit> Stack<U> {
         ensures stores { OnOk result (StoresEach U.null_bytes (t.0, U.value bytes.now) self.old.layers self.new.layers (seen T.Shows stage.old) (seen T.Shows stage.new)) }
         ensures checked { OnOk result (U.fault self.old.geometry t.0 bytes.now ≡ None) }
         ensures marked { OnOk result (EndsWith (λ layer. layer.marked ≡ true) self.new.layers) }
+        ensures marks { self.new.broken ≡ false → KeepMarks self.old.layers self.new.layers (seen T.Shows stage.old) (seen T.Shows stage.new) }
         ensures last { ChangesLast IsSameFile self.old.layers self.new.layers }
+        ensures grows { OnOk result (ChangesLast (AddsInRoom (t.0 / 256)) self.old.layers self.new.layers) }
         ensures geometry { self.new.geometry ≡ self.old.geometry }
 
         // Bytes that are no track are refused by their first fault, and nothing is done. A refusal keeps the stack, unless a call
@@ -140,6 +158,9 @@ impl<U: Unit> Stack<U> {
             → (result ≡ Err (StackFault.Layer (LayerFault.Track why))) × (self.new ≡ self.old) × (seen T.Shows stage.new ≡ seen T.Shows stage.old) }
         ensures map { self.new.broken ≡ false → IfErr result (λ why. KeepsEach U.null_bytes self.old.layers self.new.layers (seen T.Shows stage.old) (seen T.Shows stage.new)) }
         ensures refusal { IfErr result (InLayer (IsWriteRefused U.null_bytes (U.fault self.old.geometry t.0 bytes.now) self.old.layers self.new.layers (seen T.Shows stage.old) (seen T.Shows stage.new) t.0 (U.value bytes.now))) }
+        ensures stays { self.new.broken ≡ false → IfErr result (λ why. ChangesLast StaysInRoom self.old.layers self.new.layers) }
+        ensures lacks { Tells (seen T.Shows stage.old) → IsSure (seen T.Shows stage.old).world
+            → IfErr result (InLayer (λ why. EndsWith (λ layer. LacksPlace U.null_bytes layer (seen T.Shows stage.new) t.0 (U.value bytes.now) why) self.new.layers)) }
         ensures broken { self.new.broken ≡ is_broken_by result }
         ensures counts { CountsFault result (seen T.Shows stage.old).faults (seen T.Shows stage.new).faults }
 

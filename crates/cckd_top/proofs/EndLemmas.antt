@@ -1,5 +1,6 @@
 -- A script that is served to its end.
-use Rattle.std.proofs.Common.{◌≡◌, ℕ, ◌==◌, true, List, [], ◌∷◌, ◌++◌, map, codes, Result, Ok, Err, OnOk, refl, sym, ◌∙◌, ap, subst, arith}
+use Rattle.cckd_stack.specs.Room.{Room, IsRoomLegal}
+use Rattle.std.proofs.Common.{◌≡◌, ℕ, ◌==◌, true, List, [], ◌∷◌, ◌++◌, map, codes, Result, Ok, Err, OnOk, refl, sym, ◌∙◌, ap, subst, arith, None}
 use Rattle.std.specs.Prelude.{not}
 use Rattle.std.specs.List.{list_all}
 use Rattle.std.proofs.lemmas.Bool.{and_parts}
@@ -21,7 +22,8 @@ use Rattle.cckd_stack.specs.Stops.{Survives}
 use Rattle.cckd_stack.specs.Moments.{EachOpens}
 use Rattle.cckd_engine.specs.declared.engine.Engine.{Engine}
 use Rattle.cckd_engine.specs.declared.disk.Disk.{Ghosts as Making}
-use Rattle.cckd_engine.specs.Engine.{standing, Stands}
+use Rattle.cckd_engine.specs.Engine.{standing, Stands, KeepsToRoom, TellsStops}
+use Rattle.cckd_engine.specs.Closing.{AreLeftOrClosed, EndsClosed, TellsSince}
 use Rattle.cckd_engine.specs.Lines.{KeepsLine, of_text}
 use Rattle.cckd_engine.proofs.FrameLemmas.{leaves_twice, leaves_puts}
 use Rattle.cckd_console.specs.declared.stop.Stop.TheVariants as stop
@@ -31,7 +33,7 @@ use Rattle.cckd_console.specs.Saying as said
 use Rattle.cckd_console.proofs.CountLemmas.{rose_still, rose_one}
 use Rattle.cckd_console.specs.Script.{OfTheTaken}
 use Rattle.cckd_console.specs.Serving.{OnlyPuts, Serves, ServesScript}
-use Rattle.cckd_console.proofs.JoinLemmas.{keeps_twice, keeps_one, feeds_of}
+use Rattle.cckd_console.proofs.JoinLemmas.{keeps_twice, keeps_one, feeds_of, then_until}
 use Rattle.cckd_top.specs.Ended.{EndsScript, SaysSource}
 use Rattle.cckd_top.specs.Run.{closed, unscripted, cut, source_line, history_of}
 use Rattle.cckd_top.proofs.SayingLemmas.{said_behind, front_said}
@@ -41,6 +43,18 @@ use Rattle.cckd_top.proofs.SayingLemmas.{said_behind, front_said}
 module _ {S D : Type 0} (shows : Showing S) (makes : Making D) (limit : ℕ) (a b : Engine S D) (xs : List Served) (does : Serves shows makes xs a b) where
   legal_of : (s0 : Stack) → Tells (seen shows a.stage) → Stands s0 [] (standing shows makes a) → IsLegal (makes.geometry a.disk) s0 (history_of xs)
   legal_of s0 told stands = subst (λ (g : Geometry). IsLegal g s0 (history_of xs)) does.geometry (does.stands s0 [] told stands).legal
+
+  room_of : (s0 : Stack) (room : Room) → Tells (seen shows a.stage) → Stands s0 [] (standing shows makes a) → KeepsToRoom (makes.has_room a.disk) room s0 [] (standing shows makes a)
+      → IsRoomLegal (makes.geometry a.disk) room s0 (history_of xs)
+  room_of s0 room told stands keeps = subst (λ (g : Geometry). IsRoomLegal g room s0 (history_of xs)) does.geometry (does.room s0 [] room told stands keeps).kept
+
+  closed_behind : (base : List Event) → Tells (seen shows a.stage) → TellsStops (makes.agrees a.disk) a.broken (shows.world a.stage).events
+      → (a.broken ≡ None → makes.marks a.disk base (shows.world a.stage).events) → TellsSince (makes.marks b.disk) b.broken base (history_of xs) (shows.world b.stage).events
+  closed_behind base told tells marks = does.closes base [] told tells (record { since = marks; closed = λ ends. absurd ends })
+
+  closes_of : (base : List Event) → Tells (seen shows a.stage) → TellsStops (makes.agrees a.disk) a.broken (shows.world a.stage).events
+      → (a.broken ≡ None → makes.marks a.disk base (shows.world a.stage).events) → EndsClosed (history_of xs) → AreLeftOrClosed base (shows.world b.stage).events
+  closes_of base told tells marks = (closed_behind base told tells marks).closed
 
 pub closed_ends : {S D : Type 0} (shows : Showing S) (makes : Making D) (limit : ℕ) (a b : Engine S D) (left : S) (status : ℕ) → left ≡ b.stage
     → ServesScript shows makes limit a b (stop.Closed status) → EndsScript shows makes limit a left status
@@ -52,7 +66,10 @@ closed_ends shows makes limit a b left status is serves =
       printed = serves.stops.1;
       alone = serves.does.alone;
       legal = legal_of shows makes limit a b serves.served serves.does;
+      room = room_of shows makes limit a b serves.served serves.does;
+      files = serves.does.files;
       stops = λ s0 told stands agrees opens. serves.does.stops s0 [] told stands agrees opens;
+      closes = closes_of shows makes limit a b serves.served serves.does;
       spares = serves.does.spares.leaves;
       quiet = λ unchanged reads. (serves.does.quiet unchanged reads).1;
     })
@@ -67,7 +84,10 @@ cut_ends shows makes limit a b left is serves =
       printed = (serves.stops.1, refl);
       alone = serves.does.alone;
       legal = legal_of shows makes limit a b serves.served serves.does;
+      room = room_of shows makes limit a b serves.served serves.does;
+      files = serves.does.files;
       stops = λ s0 told stands agrees opens. serves.does.stops s0 [] told stands agrees opens;
+      closes = closes_of shows makes limit a b serves.served serves.does;
       spares = serves.does.spares.leaves;
       quiet = λ unchanged reads. (serves.does.quiet unchanged reads).1;
     })
@@ -98,6 +118,11 @@ unscripted_ends shows makes limit a b c left is serves says =
           (untaken (account_of xs)).failed 7 7 said.put said.counted says.said;
       alone = serves.does.alone;
       legal = legal_of shows makes limit a b xs serves.does;
+      room = room_of shows makes limit a b xs serves.does;
+      files = λ told.
+          let more = (says.puts told).put in
+          then_until (output_of (shows.world a.stage).events) 0 (map line_in xs) (shows.world a.stage).events (shows.world b.stage).events (shows.world c.stage).events
+          (record { newer = puts more.pieces; grown = more.events }) (serves.does.files told);
       stops = λ s0 told stands agrees opens.
           let first = serves.does.stops s0 [] told stands agrees opens in
           let g : makes.geometry b.disk ≡ makes.geometry a.disk = serves.does.geometry in
@@ -109,6 +134,8 @@ unscripted_ends shows makes limit a b c left is serves says =
           (shows.world c.stage).events
           (subst (λ (x : Geometry). KeepsLine x s0 (history_of xs) (of_text source_line) (output_of (shows.world b.stage).events)
           (shows.world b.stage).events (shows.world c.stage).events) g second));
+      closes = λ base told tells marks.
+          (says.closes base (history_of xs) told (closed_behind shows makes limit a b xs serves.does base told tells marks)).closed;
       spares = λ told.
           leaves_twice (makes.spares a.disk) (shows.world a.stage) (shows.world b.stage) (shows.world c.stage) (serves.does.spares.leaves told)
           (leaves_puts (makes.spares a.disk) source_line (shows.world b.stage) (shows.world c.stage) (says.puts told));
@@ -133,14 +160,18 @@ pub source_said : {S D X : Type 0} (shows : Showing S) (makes : Making D) (a b :
     → ((s0 : Stack) (h : History) → Tells (seen shows a.stage) → IsLine source_line
     → EachOpens (makes.geometry a.disk) (Survives (makes.geometry a.disk) s0 h) (shows.world a.stage).events
     → KeepsLine (makes.geometry a.disk) s0 h (of_text source_line) (output_of (shows.world a.stage).events) (shows.world a.stage).events (shows.world b.stage).events)
+    → ((base : List Event) (h : History) → Tells (seen shows a.stage) → TellsSince (makes.marks a.disk) a.broken base h (shows.world a.stage).events
+    → TellsSince (makes.marks b.disk) b.broken base h (shows.world b.stage).events)
     → SaysSource shows makes a b
-source_said shows makes a b (Ok x) whole front fails stops = record {
+source_said shows makes a b (Ok x) whole front fails stops closes = record {
   said = said.whole (record { put = λ t. puts_output _ _ _ (whole t); asked = refl; counted = rose_still _ _ fails.still });
   puts = front;
+  closes = closes;
   stops = λ s0 h told left. stops s0 h told (record { front = codes "fault: source"; ends = refl; bare = source_bare }) left;
 }
-source_said shows makes a b (Err x) whole front fails stops = record {
+source_said shows makes a b (Err x) whole front fails stops closes = record {
   said = said.cut_short (record { front = λ t. front_said _ _ _ (front t); counted = rose_one Puts _ _ fails.rose }) refl;
   puts = front;
+  closes = closes;
   stops = λ s0 h told left. stops s0 h told (record { front = codes "fault: source"; ends = refl; bare = source_bare }) left;
 }

@@ -1,5 +1,6 @@
 -- A run, from its parts.
-use Rattle.std.proofs.Common.{◌≡◌, ◌-◌, ℕ, List, [], ◌++◌, Some, ◌≤◌, Ok, Err, refl, sym, ◌∙◌, ap, subst, append-nil}
+use Rattle.cckd_stack.specs.Room.{first_room, last_file}
+use Rattle.std.proofs.Common.{◌≡◌, ◌-◌, ℕ, List, [], ◌++◌, Some, ◌≤◌, Ok, Err, refl, sym, ◌∙◌, ap, subst, append-nil, length, map, ◌<◌, arith}
 use Rattle.cckd_base.specs.declared.open_fault.OpenFault.{OpenFault}
 use Rattle.cckd_base.specs.declared.open_fault.OpenFault.TheVariants as open_fault
 use Rattle.cckd_shelf.specs.declared.fault.Faults.{Faults}
@@ -9,22 +10,24 @@ use Rattle.cckd_shelf.specs.Events.{name_of, output_of}
 use Rattle.cckd_shelf.specs.Frame.{puts, PutsSome}
 use Rattle.cckd_shelf.specs.Outcomes.{OthersStill, AtEach}
 use Rattle.cckd_shelf.specs.Seen.{Seen, seen, Tells}
-use Rattle.cckd_shelf.specs.World.{World}
+use Rattle.cckd_shelf.specs.World.{World, file_of}
+use Rattle.cckd_base.specs.Header.{headers_of, layout_of, is_present}
+use Rattle.cckd_stack.specs.Marking.{IsLeftOrClosed}
 use Rattle.cckd_script.specs.Text.{line}
 use Rattle.cckd_engine.specs.declared.engine.Engine.{Engine}
 use Rattle.cckd_engine.specs.declared.disk.Disk.{Ghosts as Making}
-use Rattle.cckd_engine.specs.Lines.{HasFront, LinesAt, history_onto}
+use Rattle.cckd_engine.specs.Lines.{HasFront, LinesAt, history_onto, AreFilesThen}
 use Rattle.cckd_console.specs.Counts.{RoseBy, one_more}
 use Rattle.cckd_console.specs.Saying.{IsSaid, plain_text}
-use Rattle.cckd_console.specs.Served.{Served, all_text, text_in, faults_told}
+use Rattle.cckd_console.specs.Served.{Served, all_text, text_in, faults_told, line_in}
 use Rattle.cckd_console.specs.Serving.{KeepsLines}
 use Rattle.cckd_console.proofs.CountLemmas.{rose_still, rose_one, rose_later}
-use Rattle.cckd_console.proofs.JoinLemmas.{keeps_twice}
+use Rattle.cckd_console.proofs.JoinLemmas.{keeps_twice, then_earlier}
 use Rattle.cckd_console.specs.Saying.{Account, account_of, SaysAll, SaysCut, AreCut, IsSaidBehind, whole, cut_short}
 use Rattle.cckd_top.specs.declared.halt.Halt.TheVariants as halt
 use Rattle.cckd_top.specs.Ended.{EndsScript}
 use Rattle.cckd_top.specs.Explained.{IsExplained, ExplainsDisk, words_are_bad, words_name_disk, files_dont_open, disk_is_served}
-use Rattle.cckd_top.specs.Names.{slot_name, after_binds}
+use Rattle.cckd_top.specs.Names.{slot_name, after_binds, files_of}
 use Rattle.cckd_top.specs.Opening.{OpensDisk, FailsToOpen, CountsOpening}
 use Rattle.cckd_top.specs.Run.{Way, closed, unscripted, cut, halted, served, source_account, open_fault_told, script_limit, IsTaken, HasPutLines, lines_of}
 use Rattle.cckd_top.specs.Text.{open_fault_text, open_fault_status, halt_text, halt_status}
@@ -66,12 +69,12 @@ told_rose open_fault.SyncFault a b h = rose_one Syncs a b h
 told_rose open_fault.Memory a b h = rose_still a b h
 
 -- a run whose files don't open
-pub disk_fails : {S : Type 0} (shows : Showing S) (start between end : S) (name : List ℕ) (why : OpenFault) (status : ℕ)
+pub disk_fails : {S : Type 0} (shows : Showing S) (start between end : S) (name : List ℕ) (limit : ℕ) (why : OpenFault) (status : ℕ)
     → FailsToOpen name why (seen shows start) (seen shows between)
     → IsSaid (plain_text (line (open_fault_text why)) (open_fault_status why)) (seen shows between) (seen shows end) status
     → PutsSome (line (open_fault_text why)) (seen shows between) (seen shows end)
-    → ExplainsDisk name (seen shows start) (seen shows end) status
-disk_fails shows start between end name why status fails said puts = record {
+    → ExplainsDisk name limit (seen shows start) (seen shows end) status
+disk_fails shows start between end name limit why status fails said puts = record {
   end = halted (halt.Files why);
   cause = files_dont_open why refl (record {
     cause = fails.cause;
@@ -116,7 +119,7 @@ words_halt shows start end words n status bad said puts = record {
 
 -- words that name a disk
 pub words_name : (words : List (List ℕ)) (old new : Seen) (disk : Named) (status : ℕ) → named_disk words ≡ Ok disk
-    → ExplainsDisk disk.file old new status → IsExplained words old new status
+    → ExplainsDisk disk.file disk.limit old new status → IsExplained words old new status
 words_name words old new disk status good explains = record {
   end = explains.end;
   cause = words_name_disk disk good explains.cause;
@@ -160,10 +163,10 @@ module _ (a b c : Seen) (tells : Tells a → Tells b) (silent : Tells a → outp
   lines_from cut xs status says = (are_cut_from xs says.0, says.1)
 
 -- a run whose files open
-pub disk_served : {S D : Type 0} (shows : Showing S) (makes : Making D) (start end : S) (engine : Engine S D) (name : List ℕ) (status : ℕ)
-    → OpensDisk shows makes name start engine → EndsScript shows makes script_limit engine end status
-    → ExplainsDisk name (seen shows start) (seen shows end) status
-disk_served shows makes start end engine name status opens ends =
+pub disk_served : {S D : Type 0} (shows : Showing S) (makes : Making D) (start end : S) (engine : Engine S D) (name : List ℕ) (limit : ℕ) (status : ℕ)
+    → OpensDisk shows makes name limit start engine → EndsScript shows makes script_limit engine end status
+    → ExplainsDisk name limit (seen shows start) (seen shows end) status
+disk_served shows makes start end engine name limit status opens ends =
     let old = shows.world start in
     let mid = shows.world engine.stage in
     let g = makes.geometry engine.disk in
@@ -178,6 +181,12 @@ disk_served shows makes start end engine name status opens ends =
           mounted = opens.mounted;
           alone = ends.alone;
           legal = λ s0 at. ends.legal s0 at.tells.0 (opens.stands s0 at);
+          room = λ s0 at.
+              ends.room s0 (first_room limit (length (last_file s0 (files_of name old)))) at.tells.0 (opens.stands s0 at)
+              (record { kept = tt; left = λ none. opens.room s0 at });
+          files = λ told.
+              subst (λ (out : List ℕ). AreFilesThen out 0 (map line_in ends.served) old.events (shows.world end).events) (mid_keeps told).output
+              (then_earlier (output_of mid.events) 0 (map line_in ends.served) old.events mid.events (shows.world end).events (mid_keeps told).grows (ends.files told));
           stops = λ s0 at snug nothing.
               let told = at.tells.0 in
               let done = opens.done told in
@@ -199,6 +208,22 @@ disk_served shows makes start end engine name status opens ends =
                 after = all.after;
                 last = λ hard. last_opens g s0 (history_onto (lines_of ends.way ends.served) []) (shows.world end).events hard all.after;
                 each = subst (λ (s : List ℕ). AtEach bound.events (shows.world end).events (LinesAt g s0 [] (lines_of ends.way ends.served) s)) out all.each;
+              };
+          closes = λ s0 at snug closed.
+              let told = at.tells.0 in
+              let done = opens.done told in
+              let row = done.row at.tells.1 in
+              let marks = opens.closes s0 at snug in
+              let all = ends.closes mid.events told marks.agrees (λ none. marks.marks) closed in
+              let low : (slot : ℕ) → slot < done.count → slot ≤ 8 = λ slot below. omega (arith, below, done.few.1) in
+              let held : (slot : ℕ) → slot < done.count → file_of mid slot ≡ files_of name old slot = λ slot below. (opens.holds told).files slot (low slot below) in
+              record {
+                count = done.count;
+                row = row;
+                files = λ slot below. subst (λ (w : World). file_of w slot ≡ files_of name old slot) done.done (held slot below);
+                each = λ slot below.
+                    subst (λ (w : World). IsLeftOrClosed (layout_of (headers_of (file_of (shows.world end) slot))) slot w.events (shows.world end).events) done.done
+                    (all slot (low slot below) (ap is_present (held slot below) ∙ row.there slot below));
               };
           spares = λ told.
               let done = opens.done told in

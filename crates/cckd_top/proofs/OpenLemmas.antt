@@ -1,5 +1,7 @@
 -- The files of a disk that are opened, from their parts.
-use Rattle.std.proofs.Common.{◌≡◌, ℕ, zero, suc, max, ◌≤◌, ◌-◌, false, List, [], Err, refl, sym, ◌∙◌, ap, subst, arith}
+use Rattle.cckd_stack.specs.Room.{first_room, last_file}
+use Rattle.cckd_stack.specs.Tops.{top_slot}
+use Rattle.std.proofs.Common.{◌≡◌, ℕ, zero, suc, max, ◌≤◌, ◌-◌, false, List, [], Err, refl, sym, ◌∙◌, ap, subst, arith, length}
 use Rattle.cckd_base.specs.declared.geometry.Geometry.{Geometry}
 use Rattle.cckd_base.specs.Header.{headers_of, header_geometry, layout_of, is_present}
 use Rattle.cckd_base.specs.Image.{IsSnug}
@@ -13,7 +15,7 @@ use Rattle.cckd_shelf.specs.Events.{Event, output_of}
 use Rattle.cckd_shelf.specs.Seen.{Seen, seen, Tells}
 use Rattle.cckd_shelf.specs.World.{World, IsSure, IsTied, file_of}
 use Rattle.cckd_layer.specs.Mounted.{CountsOpen}
-use Rattle.cckd_stack.specs.Layers.{Stack}
+use Rattle.cckd_stack.specs.Layers.{Stack, base, shadow, layer_count}
 use Rattle.cckd_stack.specs.Called.{AreSnug}
 use Rattle.cckd_stack.specs.Opened.{Opens}
 use Rattle.cckd_stack.specs.Mounting.{IsRow, HasRow, IsGap, IsImageIn, IsFileCase, IsFirstCase, IsRefused, IsMountCause, SyncsSome, after_syncs, shape_of}
@@ -84,7 +86,7 @@ module _ (name : List ℕ) (start bound : Seen) (tells : Tells start → Tells b
     files_cause (open_fault.Gap slot) cause = λ at.
         gap_by (file_of bound.world) (files_of name start.world) (same at.0) slot (cause (tells at.0) (sure at.0 at.1))
     files_cause (open_fault.Header slot fault) cause = case_by (open_fault.Header slot fault) cause
-    files_cause (open_fault.Mismatch slot base found) cause = case_by (open_fault.Mismatch slot base found) cause
+    files_cause (open_fault.Mismatch slot one found) cause = case_by (open_fault.Mismatch slot one found) cause
     files_cause (open_fault.Scan slot fault) cause = case_by (open_fault.Scan slot fault) cause
     files_cause open_fault.ReadFault cause = tt
     files_cause open_fault.WriteFault cause = cause
@@ -94,7 +96,7 @@ module _ (name : List ℕ) (start bound : Seen) (tells : Tells start → Tells b
 counts_opening : (why : OpenFault) (old new : Faults) → CountsOpen {A = ℕ} (Err why) old new → CountsOpening why old new
 counts_opening (open_fault.Gap slot) old new h = h
 counts_opening (open_fault.Header slot fault) old new h = h
-counts_opening (open_fault.Mismatch slot base found) old new h = h
+counts_opening (open_fault.Mismatch slot one found) old new h = h
 counts_opening (open_fault.Scan slot fault) old new h = h
 counts_opening open_fault.ReadFault old new h = h
 counts_opening open_fault.WriteFault old new h = h
@@ -136,11 +138,16 @@ fails_to_mount shows name start bound left why done still tied cause syncs count
 
 -- ---- files that open
 
+-- the last layer's slot is one of nine
+top_low : (s : Stack) → layer_count s ≤ 9 → top_slot s ≤ 8
+top_low (base layer) few = omega arith
+top_low (shadow layer lower) few = omega (arith, few)
+
 snug_by : (files others : ℕ → List ℕ) → ((k : ℕ) → k ≤ 8 → files k ≡ others k) → AreSnug files → AreSnug others
 snug_by files others same snug = λ k low there.
     subst (λ (file : List ℕ). IsSnug (layout_of (headers_of file)) file) (same k low) (snug k low (ap is_present (same k low) ∙ there))
 
-module _ {S D : Type 0} (shows : Showing S) (makes : Making D) (name : List ℕ) (start bound : S) (engine : Engine S D) (count : ℕ)
+module _ {S D : Type 0} (shows : Showing S) (makes : Making D) (name : List ℕ) (limit : ℕ) (start bound : S) (engine : Engine S D) (count : ℕ)
     (done : Tells (seen shows start) → shows.world bound ≡ after_binds name 9 (shows.world start)) (still : shows.faults bound ≡ shows.faults start)
     (tied : Tells (seen shows start) → IsTied (shows.world bound))
     (synced : Tells (seen shows start) → shows.world engine.stage ≡ after_syncs count (shows.world bound)) (quiet : shows.faults engine.stage ≡ shows.faults bound)
@@ -148,8 +155,12 @@ module _ {S D : Type 0} (shows : Showing S) (makes : Making D) (name : List ℕ)
     (opens : Tells (seen shows start) → IsSure (shows.world bound) → (s0 : Stack) × Opens (makes.geometry engine.disk) (file_of (shows.world bound)) s0)
     (stands : Tells (seen shows start) → IsSure (shows.world bound) → (s0 : Stack) → Opens (makes.geometry engine.disk) (file_of (shows.world bound)) s0
     → Stands s0 [] (standing shows makes engine))
+    (room : Tells (seen shows start) → IsSure (shows.world bound) → (s0 : Stack) → Opens (makes.geometry engine.disk) (file_of (shows.world bound)) s0
+    → makes.has_room engine.disk (first_room limit (length (last_file s0 (file_of (shows.world bound))))))
     (agrees : Tells (seen shows start) → IsSure (shows.world bound) → AreSnug (file_of (shows.world bound))
     → TellsStops (makes.agrees engine.disk) engine.broken (shows.world engine.stage).events)
+    (marks : Tells (seen shows start) → IsSure (shows.world bound) → AreSnug (file_of (shows.world bound))
+    → makes.marks engine.disk (shows.world engine.stage).events (shows.world engine.stage).events)
   where
     holds : Tells (seen shows start) → (k : ℕ) → k ≤ 8 → file_of (shows.world bound) k ≡ files_of name (shows.world start) k
     holds told = bound_holds name (shows.world start) (shows.world bound) (done told) (tied told)
@@ -162,7 +173,7 @@ module _ {S D : Type 0} (shows : Showing S) (makes : Making D) (name : List ℕ)
 
     pub opens_disk : engine.calls ≡ 0 → engine.mute ≡ false → Runs (makes.tied engine.disk) engine.broken (seen shows engine.stage)
         → makes.unchanged engine.disk → (1 ≤ count) × (count ≤ 9) → ((slot : ℕ) → (count - 1 ≡ slot → ⊥) → makes.spares engine.disk slot)
-        → OpensDisk shows makes name start engine
+        → OpensDisk shows makes name limit start engine
     opens_disk calls heard runs unchanged few spares = record {
       calls = calls;
       heard = heard;
@@ -184,6 +195,16 @@ module _ {S D : Type 0} (shows : Showing S) (makes : Making D) (name : List ℕ)
           let told = at.tells.0 in
           stands told (sure_there told at.tells.1) s0
           (opens_by (makes.geometry engine.disk) (files_of name (shows.world start)) (file_of (shows.world bound)) s0 (held told) at.opens);
+      room = λ s0 at.
+          let told = at.tells.0 in
+          let opened = opens_by (makes.geometry engine.disk) (files_of name (shows.world start)) (file_of (shows.world bound)) s0 (held told) at.opens in
+          subst (λ (file : List ℕ). makes.has_room engine.disk (first_room limit (length file))) (holds told (top_slot s0) (top_low s0 at.opens.few))
+          (room told (sure_there told at.tells.1) s0 opened);
+      closes = λ s0 at snug.
+          let told = at.tells.0 in
+          let there = sure_there told at.tells.1 in
+          let here = snug_by (files_of name (shows.world start)) (file_of (shows.world bound)) (held told) snug in
+          record { agrees = agrees told there here; marks = marks told there here };
       stops = λ s0 at snug nothing.
           let told = at.tells.0 in
           let w = shows.world bound in

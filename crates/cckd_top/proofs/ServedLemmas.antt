@@ -99,7 +99,7 @@ ComesTo g s0 end old new status = ServesAll g s0 end old new status ⊎ ((end �
 
 -- ---- a run
 
-module _ (name : List ℕ) (g : Geometry) (s0 : Stack) (old new : Seen) (at : OpensAt name g s0 old) (none : NoneFailed old.faults new.faults) where
+module _ (name : List ℕ) (limit : ℕ) (g : Geometry) (s0 : Stack) (old new : Seen) (at : OpensAt name g s0 old) (none : NoneFailed old.faults new.faults) where
   -- files that open are refused for want of memory alone
   only_memory : (why : OpenFault) (status : ℕ) → IsFilesCause name old why → IsSaid (halt_account (halt.Files why)) old new status
       → (why ≡ open_fault.Memory) × (status ≡ 8)
@@ -123,7 +123,7 @@ module _ (name : List ℕ) (g : Geometry) (s0 : Stack) (old new : Seen) (at : Op
   ]
 
   -- a script that is closed was served whole
-  module _ (xs : List Served) (status : ℕ) (serves : ServesDisk name closed xs old new) (says : SaysAll (account_of xs) old new status) where
+  module _ (xs : List Served) (status : ℕ) (serves : ServesDisk name limit closed xs old new) (says : SaysAll (account_of xs) old new status) where
     one_shape : g ≡ serves.runs.geometry
     one_shape =
         let other = serves.runs.mounted at.tells in
@@ -181,14 +181,14 @@ module _ (name : List ℕ) (g : Geometry) (s0 : Stack) (old new : Seen) (at : Op
     | cut_short says is ↦ not_cut _ _ _ old new none says
   ]
 
-  any_way : (way : Way) (xs : List Served) (status : ℕ) → ServesDisk name way xs old new → HasPutLines way xs old new status
+  any_way : (way : Way) (xs : List Served) (status : ℕ) → ServesDisk name limit way xs old new → HasPutLines way xs old new status
       → ServesAll g s0 (served way xs) old new status
   any_way closed xs status serves put = closed_all xs status serves put
   any_way unscripted xs status serves put = absurd (not_unscripted xs status put)
   any_way cut xs status serves put = absurd (not_cut _ _ _ old new none put.0.said)
 
   -- what a run on the disk comes to
-  disk_comes_to : (end : Ending) (status : ℕ) → DiskCause name old new end → HasPut end old new status → ComesTo g s0 end old new status
+  disk_comes_to : (end : Ending) (status : ℕ) → DiskCause name limit old new end → HasPut end old new status → ComesTo g s0 end old new status
   disk_comes_to end status cause put = elim cause [
     | files_dont_open why is opens ↦ (
         let m = only_memory why status opens.cause (subst (λ (e : Ending). HasPut e old new status) is put) in
@@ -200,7 +200,7 @@ module _ (name : List ℕ) (g : Geometry) (s0 : Stack) (old new : Seen) (at : Op
   ]
 
   -- what its files are where it was closed
-  disk_leaves : (end : Ending) (status : ℕ) (all : List Served) → DiskCause name old new end → HasPut end old new status → end ≡ served closed all
+  disk_leaves : (end : Ending) (status : ℕ) (all : List Served) → DiskCause name limit old new end → HasPut end old new status → end ≡ served closed all
       → AreSnug (files_of name old.world) → NothingIsOpen old.world → Opens g (file_now new.world.events) (stack_after g s0 (history_of all))
   disk_leaves end status all cause put ends snug nothing = elim cause [
     | files_dont_open why is opens ↦ absurd (let e = sym is ∙ ends in cc e)
@@ -208,20 +208,20 @@ module _ (name : List ℕ) (g : Geometry) (s0 : Stack) (old new : Seen) (at : Op
         let e = sym is ∙ ends in
         let way_is : way ≡ closed = cc e in
         let all_are : xs ≡ all = cc e in
-        let here : ServesDisk name closed all old new =
-        subst (λ (ys : List Served). ServesDisk name closed ys old new) all_are (subst (λ (w : Way). ServesDisk name w xs old new) way_is serves) in
+        let here : ServesDisk name limit closed all old new =
+        subst (λ (ys : List Served). ServesDisk name limit closed ys old new) all_are (subst (λ (w : Way). ServesDisk name limit w xs old new) way_is serves) in
         closed_leaves all status here (subst (λ (x : Ending). HasPut x old new status) ends put) snug nothing
         )
   ]
 
 -- the cause is that of the disk which the words name
 cause_of_disk : (words : List (List ℕ)) (disk : Named) (old new : Seen) (end : Ending) → named_disk words ≡ Ok disk → HasCause words old new end
-    → DiskCause disk.file old new end
+    → DiskCause disk.file disk.limit old new end
 cause_of_disk words disk old new end good cause = elim cause [
   | words_are_bad n bad is does ↦ absurd (let e = sym good ∙ bad in cc e)
   | words_name_disk other named why ↦ (
       let same : other ≡ disk = (let e = sym named ∙ good in cc e) in
-      subst (λ (d : Named). DiskCause d.file old new end) same why
+      subst (λ (d : Named). DiskCause d.file d.limit old new end) same why
       )
 ]
 
@@ -236,7 +236,7 @@ module _ (words : List (List ℕ)) (g : Geometry) (s0 : Stack) (old new : Seen) 
 
   run_comes_to : (run : IsExplained words old new status) → ComesTo g s0 run.end old new status
   run_comes_to run =
-      disk_comes_to free.disk.file g s0 old new free.opens none run.end status
+      disk_comes_to free.disk.file free.disk.limit g s0 old new free.opens none run.end status
       (cause_of_disk words free.disk old new run.end free.named run.cause) run.printed
 
   pub run_served : (status ≡ 8 → ⊥) → (run : IsExplained words old new status) → ServesAll g s0 run.end old new status
@@ -255,5 +255,5 @@ module _ (words : List (List ℕ)) (g : Geometry) (s0 : Stack) (old new : Seen) 
   pub run_stored : AreSnug (files_of free.disk.file old.world) → NothingIsOpen old.world → (run : IsExplained words old new status) → (all : List Served)
       → run.end ≡ served closed all → Opens g (file_now new.world.events) (stack_after g s0 (history_of all))
   run_stored snug nothing run all ends =
-      disk_leaves free.disk.file g s0 old new free.opens none run.end status all
+      disk_leaves free.disk.file free.disk.limit g s0 old new free.opens none run.end status all
       (cause_of_disk words free.disk old new run.end free.named run.cause) run.printed ends snug nothing

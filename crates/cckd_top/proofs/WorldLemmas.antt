@@ -1,4 +1,6 @@
 -- What is done before a script is served, and what is put, leave the files as they were, whatever a stop leaves.
+use Rattle.cckd_console.proofs.JoinLemmas.{grows_twice}
+use Rattle.cckd_engine.specs.Lines.{GrowsFrom}
 use Rattle.std.proofs.Common.{◌≡◌, ℕ, zero, suc, Bool, true, false, cond, not, refl, sym, ◌∙◌, ap, subst, List, [], ◌∷◌, ◌++◌, Option, Some, None, unwrap_or}
 use Rattle.std.specs.Prelude.{◌&&◌, ◌||◌, MatchBool, MatchOption}
 use Rattle.std.specs.Str.{bytes_eq}
@@ -79,9 +81,10 @@ pub record KeepsAll (w new : World) : Type 0 where
   pub sure : is_sure new.events ≡ is_sure w.events
   pub output : output_of new.events ≡ output_of w.events
   pub intact : StayIntact w new
+  pub grows : GrowsFrom w.events new.events
 
 keeps_still : (w : World) → KeepsAll w w
-keeps_still w = record { files = refl; script = refl; sure = refl; output = refl; intact = intact_still w w refl }
+keeps_still w = record { files = refl; script = refl; sure = refl; output = refl; intact = intact_still w w refl; grows = record { newer = []; grown = refl } }
 
 pub keeps_twice : (a b c : World) → KeepsAll a b → KeepsAll b c → KeepsAll a c
 keeps_twice a b c f g = record {
@@ -90,12 +93,20 @@ keeps_twice a b c f g = record {
   sure = g.sure ∙ f.sure;
   output = g.output ∙ f.output;
   intact = intact_twice a b c f.files f.intact g.intact;
+  grows = grows_twice a.events b.events c.events f.grows g.grows;
 }
+
+bind_grows : (w : World) (slot : ℕ) (name : List ℕ) → GrowsFrom w.events (after_bind slot name w).events
+bind_grows w slot name = by (is_name (name_of w.events slot) name)
+  where
+    by : (b : Bool) → GrowsFrom w.events (cond b w (record w { events = Bound slot name (held_by w name) ∷ w.events })).events
+    by true = record { newer = []; grown = refl }
+    by false = record { newer = Bound slot name (held_by w name) ∷ []; grown = refl }
 
 bind_keeps_all : (w : World) (slot : ℕ) (name : List ℕ) → KeepsAll w (after_bind slot name w)
 bind_keeps_all w slot name =
     let keeps = bind_keeps w slot name in
-    record { files = keeps.files; script = keeps.script; sure = keeps.sure; output = keeps.output; intact = intact_at_bind w slot name }
+    record { files = keeps.files; script = keeps.script; sure = keeps.sure; output = keeps.output; intact = intact_at_bind w slot name; grows = bind_grows w slot name }
 
 pub binds_keep : (file : List ℕ) (n : ℕ) (w : World) → KeepsAll w (after_binds file n w)
 binds_keep file zero w = keeps_still w
@@ -103,7 +114,7 @@ binds_keep file (suc n) w =
     keeps_twice w (after_binds file n w) (after_binds file (suc n) w) (binds_keep file n w) (bind_keeps_all (after_binds file n w) n (slot_name file n))
 
 sync_keeps_all : (w : World) (slot : ℕ) → KeepsAll w (after_sync slot w)
-sync_keeps_all w slot = record { files = refl; script = refl; sure = refl; output = refl; intact = intact_at_sync w slot }
+sync_keeps_all w slot = record { files = refl; script = refl; sure = refl; output = refl; intact = intact_at_sync w slot; grows = record { newer = Synced slot ∷ []; grown = refl } }
 
 pub syncs_keep : (n : ℕ) (w : World) → KeepsAll w (after_syncs n w)
 syncs_keep zero w = keeps_still w

@@ -1,11 +1,13 @@
 -- What a run promises of the disk that it serves.
-use Rattle.std.specs.Prelude.{◌≡◌, ◌<◌, ◌≤◌, ◌-◌, ◌++◌, ℕ, true, List, [], ◌∷◌, Some, None}
+use Rattle.cckd_stack.specs.Room.{first_room, last_file, IsRoomLegal}
+use Rattle.std.specs.Prelude.{◌≡◌, ◌<◌, ◌≤◌, ◌-◌, ℕ, true, List, [], ◌∷◌, Some, None, length, map}
 use Rattle.cckd_base.specs.declared.geometry.Geometry.{Geometry}
 use Rattle.cckd_base.specs.declared.open_fault.OpenFault.{OpenFault}
 use Rattle.cckd_base.specs.declared.open_fault.OpenFault.TheVariants as open_fault
-use Rattle.cckd_shelf.specs.Events.{Event, name_of, output_of, file_now}
+use Rattle.cckd_shelf.specs.Events.{name_of, output_of, file_now}
 use Rattle.cckd_shelf.specs.Seen.{Seen, Tells}
-use Rattle.cckd_shelf.specs.World.{World, IsSure}
+use Rattle.cckd_shelf.specs.World.{World, IsSure, file_of}
+use Rattle.cckd_base.specs.Header.{headers_of, layout_of}
 use Rattle.cckd_shelf.specs.Outcomes.{EachOutcome, OthersStill, AtEach}
 use Rattle.cckd_stack.specs.Layers.{Stack}
 use Rattle.cckd_stack.specs.History.{Entry, History, IsLegal, broken_at, stack_after}
@@ -14,8 +16,10 @@ use Rattle.cckd_stack.specs.Moments.{EachOpens}
 use Rattle.cckd_stack.specs.Opened.{Opens}
 use Rattle.cckd_stack.specs.Mounting.{IsRow, IsGap, IsRefused}
 use Rattle.cckd_stack.specs.Called.{AreSnug}
-use Rattle.cckd_engine.specs.Lines.{Line, LinesAt, history_onto}
-use Rattle.cckd_console.specs.Served.{Served, AreAlone, OnlyRead}
+use Rattle.cckd_engine.specs.Lines.{Line, LinesAt, GrowsFrom, AreFilesThen, history_onto}
+use Rattle.cckd_console.specs.Served.{Served, AreAlone, OnlyRead, line_in}
+use Rattle.cckd_stack.specs.Marking.{IsLeftOrClosed}
+use Rattle.cckd_engine.specs.Closing.{EndsClosed}
 use Rattle.cckd_top.specs.Names.{slot_name, files_of, after_binds}
 use Rattle.cckd_top.specs.World.{TellsFiles, NothingIsOpen, OnlyMounts, after_mounting}
 use Rattle.cckd_top.specs.Run.{Way, lines_of, history_of}
@@ -32,11 +36,6 @@ IsFilesCause name s open_fault.WriteFault = ⊥
 IsFilesCause name s open_fault.SyncFault = Unit {0}
 IsFilesCause name s open_fault.Memory = Unit {0}
 IsFilesCause name s why = OfNames (λ files. IsRefused files why) name s
-
--- these events begin with others
-pub record GrowsFrom (old new : List Event) : Type 0 where
-  pub newer : List Event
-  pub grown : new ≡ newer ++ old
 
 -- The nine slots got their files, one after another, and each that is there was synced, the base first. Nothing else was done
 -- to the files.
@@ -79,22 +78,39 @@ pub record SparesLower (name : List ℕ) (old new : World) : Type 0 where
   pub names : AtEach (after_mounting name 9 count old).events new.events (λ es. (slot : ℕ) → slot ≤ 8 → name_of es slot ≡ Some (slot_name name slot))
   pub files : (other : List ℕ) → (slot_name name (count - 1) ≡ other → ⊥) → new.files other ≡ old.files other
 
+-- Each file that is there stayed as it was once it was synced, whatever a stop left at an operation since; or it is that of a closed
+-- image, and a stop leaves it as it is.
+pub record LeavesClosed (name : List ℕ) (old new : World) : Type 0 where
+  pub count : ℕ
+  pub row : IsRow (files_of name old) count
+  pub files : (slot : ℕ) → slot < count → file_of (after_mounting name 9 count old) slot ≡ files_of name old slot
+  pub each : (slot : ℕ) → slot < count
+      → IsLeftOrClosed (layout_of (headers_of (file_of new slot))) slot (after_mounting name 9 count old).events new.events
+
 -- the files of a disk open to this stack, as they are told at the start
 pub record OpensAt (name : List ℕ) (g : Geometry) (s0 : Stack) (s : Seen) : Type 0 where
   pub tells : TellsFiles s
   pub opens : Opens g (files_of name s.world) s0
 
--- What a run does with the disk of a name that opens, where these calls were served.
-pub record RunsDisk (name : List ℕ) (way : Way) (xs : List Served) (old new : Seen) : Type 0 where
+-- What a run does with the disk of a name that opens, whose files may have so many bytes, where these calls were served.
+pub record RunsDisk (name : List ℕ) (limit : ℕ) (way : Way) (xs : List Served) (old new : Seen) : Type 0 where
   pub geometry : Geometry
   -- the files at the start open to a stack
   pub mounted : TellsFiles old → (s0 : Stack) × Opens geometry (files_of name old.world) s0
   -- the calls are of no session, and with their answers they are a legal history of the layered disk from that stack
   pub alone : AreAlone xs
   pub legal : (s0 : Stack) → OpensAt name geometry s0 old → IsLegal geometry s0 (history_of xs)
+  -- each refusal for want of room has its cause in the last file; and while no call breaks, that file is within the limit, or no
+  -- longer than at the start. It is said of the files as they were before the call's line was put
+  pub room : (s0 : Stack) → OpensAt name geometry s0 old
+      → IsRoomLegal geometry (first_room limit (length (last_file s0 (files_of name old.world)))) s0 (history_of xs)
+  pub files : Tells old → AreFilesThen (output_of old.world.events) 0 (map line_in xs) old.world.events new.world.events
   -- where each file was snug and nothing stood open, whatever a stop leaves is what the calls may leave
   pub stops : (s0 : Stack) → OpensAt name geometry s0 old → AreSnug (files_of name old.world) → NothingIsOpen old.world
       → KeepsDisk name geometry s0 (lines_of way xs) old.world new.world
+  -- where each file was snug, behind a last call that was answered `closed` each file that was changed is that of a closed image
+  pub closes : (s0 : Stack) → OpensAt name geometry s0 old → AreSnug (files_of name old.world) → EndsClosed (history_of xs)
+      → LeavesClosed name old.world new.world
   -- in any case each file that is there is synced, and then none is changed but the last one
   pub spares : Tells old → SparesLower name old.world new.world
   -- where no call writes, each file that is there is synced, and none is changed

@@ -20,19 +20,19 @@ pub record DoesNotOpen (name : List ℕ) (why : OpenFault) (old new : Seen) : Ty
   pub does : Tells old → GivesUp name why old.world new.world
 
 -- The files of a disk open, and the script was served over them.
-pub record ServesDisk (name : List ℕ) (way : Way) (xs : List Served) (old new : Seen) : Type 0 where
+pub record ServesDisk (name : List ℕ) (limit : ℕ) (way : Way) (xs : List Served) (old new : Seen) : Type 0 where
   pub taken : Tells old → IsTaken way script_limit old.world.script new.world.script xs
-  pub runs : RunsDisk name way xs old new
+  pub runs : RunsDisk name limit way xs old new
 
 -- why a run on a disk ends so, and what it did: the files don't open, or the script is served
-pub data DiskCause (name : List ℕ) (old new : Seen) (end : Ending) : Type 0 where
-  files_dont_open : (why : OpenFault) → end ≡ halted (halt.Files why) → DoesNotOpen name why old new → DiskCause name old new end
-  disk_is_served : (way : Way) → (xs : List Served) → end ≡ served way xs → ServesDisk name way xs old new → DiskCause name old new end
+pub data DiskCause (name : List ℕ) (limit : ℕ) (old new : Seen) (end : Ending) : Type 0 where
+  files_dont_open : (why : OpenFault) → end ≡ halted (halt.Files why) → DoesNotOpen name why old new → DiskCause name limit old new end
+  disk_is_served : (way : Way) → (xs : List Served) → end ≡ served way xs → ServesDisk name limit way xs old new → DiskCause name limit old new end
 
 -- why a run ends so, and what it did: the words are wrong, or they name a disk
 pub data HasCause (words : List (List ℕ)) (old new : Seen) (end : Ending) : Type 0 where
   words_are_bad : (n : ℕ) → named_disk words ≡ Err n → end ≡ halted (halt.BadWords n) → DoesNothing old new → HasCause words old new end
-  words_name_disk : (disk : Named) → named_disk words ≡ Ok disk → DiskCause disk.file old new end → HasCause words old new end
+  words_name_disk : (disk : Named) → named_disk words ≡ Ok disk → DiskCause disk.file disk.limit old new end → HasCause words old new end
 
 -- One ending, with its cause in the words, the files and the script as they were at the start, explains what was done, the
 -- output, the status and each count of faults. It is said of what a stage shows at the start and at the end of a run with these
@@ -43,7 +43,7 @@ pub record IsExplained (words : List (List ℕ)) (old new : Seen) (status : ℕ)
   pub printed : HasPut end old new status
 
 -- the same of a run on a disk
-pub record ExplainsDisk (name : List ℕ) (old new : Seen) (status : ℕ) : Type 0 where
+pub record ExplainsDisk (name : List ℕ) (limit : ℕ) (old new : Seen) (status : ℕ) : Type 0 where
   pub end : Ending
-  pub cause : DiskCause name old new end
+  pub cause : DiskCause name limit old new end
   pub printed : HasPut end old new status

@@ -1,5 +1,6 @@
 -- What becomes of the files of a disk when they are opened.
-use Rattle.std.specs.Prelude.{◌≡◌, ◌<◌, ◌≤◌, ◌-◌, ℕ, false, List, [], Result, Ok, Err}
+use Rattle.cckd_stack.specs.Room.{first_room, last_file}
+use Rattle.std.specs.Prelude.{◌≡◌, ◌<◌, ◌≤◌, ◌-◌, ℕ, false, List, [], Result, Ok, Err, length}
 use Rattle.cckd_base.specs.declared.open_fault.OpenFault.{OpenFault}
 use Rattle.cckd_base.specs.declared.open_fault.OpenFault.TheVariants as open_fault
 use Rattle.cckd_shelf.specs.declared.shows.Shows.{Ghosts as Showing}
@@ -38,8 +39,13 @@ pub record StopsOpen {S D : Type 0} (shows : Showing S) (makes : Making D) (name
   pub agrees : TellsStops (makes.agrees new.disk) new.broken (shows.world new.stage).events
   pub keeps : KeepsLines (makes.geometry new.disk) s0 [] [] (output_of old.events) (after_binds name 9 old).events (shows.world new.stage).events
 
+-- it is told what stops leave of a disk that was opened, and its marks say what is done to the files from then on
+pub record MarksOpen {S D : Type 0} (shows : Showing S) (makes : Making D) (new : Engine S D) : Type 0 where
+  pub agrees : TellsStops (makes.agrees new.disk) new.broken (shows.world new.stage).events
+  pub marks : makes.marks new.disk (shows.world new.stage).events (shows.world new.stage).events
+
 -- The files of a name opened to an engine that has made no call.
-pub record OpensDisk {S D : Type 0} (shows : Showing S) (makes : Making D) (name : List ℕ) (old : S) (new : Engine S D) : Type 0 where
+pub record OpensDisk {S D : Type 0} (shows : Showing S) (makes : Making D) (name : List ℕ) (limit : ℕ) (old : S) (new : Engine S D) : Type 0 where
   pub calls : new.calls ≡ 0
   pub heard : new.mute ≡ false
   pub runs : Runs (makes.tied new.disk) new.broken (seen shows new.stage)
@@ -50,8 +56,12 @@ pub record OpensDisk {S D : Type 0} (shows : Showing S) (makes : Making D) (name
   pub spares : (told : Tells (seen shows old)) (slot : ℕ) → ((done told).count - 1 ≡ slot → ⊥) → makes.spares new.disk slot
   pub mounted : TellsFiles (seen shows old) → (s0 : Stack) × Opens (makes.geometry new.disk) (files_of name (shows.world old)) s0
   pub stands : (s0 : Stack) → OpensAt name (makes.geometry new.disk) s0 (seen shows old) → Stands s0 [] (standing shows makes new)
+  pub room : (s0 : Stack) → OpensAt name (makes.geometry new.disk) s0 (seen shows old)
+      → makes.has_room new.disk (first_room limit (length (last_file s0 (files_of name (shows.world old)))))
   pub stops : (s0 : Stack) → OpensAt name (makes.geometry new.disk) s0 (seen shows old) → AreSnug (files_of name (shows.world old))
       → NothingIsOpen (shows.world old) → StopsOpen shows makes name s0 (shows.world old) new
+  pub closes : (s0 : Stack) → OpensAt name (makes.geometry new.disk) s0 (seen shows old) → AreSnug (files_of name (shows.world old))
+      → MarksOpen shows makes new
 
 -- some slots got their files, and behind nine some were synced
 pub record IsTriedFrom (name : List ℕ) (why : OpenFault) (old new : World) : Type 0 where
@@ -74,6 +84,6 @@ pub record FailsToOpen (name : List ℕ) (why : OpenFault) (old new : Seen) : Ty
   pub done : Tells old → IsTriedFrom name why old.world new.world
 
 -- what opening the files of a name comes to
-abbrev pub IsOpening : {S D : Type 0} → Showing S → Making D → List ℕ → S → Result (Engine S D) (S × OpenFault) → Type 0
-IsOpening shows makes name old (Ok engine) = OpensDisk shows makes name old engine
-IsOpening shows makes name old (Err tried) = FailsToOpen name tried.1 (seen shows old) (seen shows tried.0)
+abbrev pub IsOpening : {S D : Type 0} → Showing S → Making D → List ℕ → ℕ → S → Result (Engine S D) (S × OpenFault) → Type 0
+IsOpening shows makes name limit old (Ok engine) = OpensDisk shows makes name limit old engine
+IsOpening shows makes name limit old (Err tried) = FailsToOpen name tried.1 (seen shows old) (seen shows tried.0)

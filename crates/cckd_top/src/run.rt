@@ -110,7 +110,7 @@ fn open<T: Stage>(
 ) -> Result<Engine<T, Stack<Ckd>>, (T, OpenFault)>
     requires file { IsTrue (is_file_word file.now) }
     requires limit { limit ≤ FORMAT_LIMIT }
-    ensures { IsOpening T.Shows ⟦<Stack<Ckd> as Disk>⟧ file.now stage result }
+    ensures { IsOpening T.Shows ⟦<Stack<Ckd> as Disk>⟧ file.now limit stage result }
 {
     let mut stage = stage;
     let Ok(()) = bind_all(&mut stage, file) else {
@@ -126,7 +126,7 @@ fn open<T: Stage>(
 fn run_disk<T: Stage>(stage: T, alloc: Global, file: &str, limit: u32, rooms: &mut Rooms) -> (T, u8)
     requires file { IsTrue (is_file_word file.now) }
     requires limit { limit ≤ FORMAT_LIMIT }
-    ensures { ExplainsDisk file.now (seen T.Shows stage) (seen T.Shows result.0) result.1 }
+    ensures { ExplainsDisk file.now limit (seen T.Shows stage) (seen T.Shows result.0) result.1 }
 {
     match open(stage, alloc, file, limit) {
         Ok(engine) => serve_to_end(engine, rooms),

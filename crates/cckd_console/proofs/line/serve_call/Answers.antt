@@ -25,8 +25,11 @@ returns-clause-serves g c =
         alone = (refl, tt);
         geometry = does.geometry;
         stands = does.stands;
+        room = does.room;
+        files = does.files;
         runs = λ runs. does.runs;
         agrees = does.agrees;
+        closes = does.closes;
         spares = does.spares;
         stops = λ s0 h told stands tells left.
             keeps_one (g.D.Disk.geometry c.args.engine.now.disk) s0 h (of_call e) _ _ _ (does.stops s0 h told stands tells left);

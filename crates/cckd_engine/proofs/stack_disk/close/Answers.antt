@@ -3,14 +3,17 @@ use Rattle.cckd_base.specs.declared.call.Call.TheVariants as call
 use Rattle.cckd_base.specs.declared.reply.Reply.{Reply}
 use Rattle.cckd_base.specs.declared.reply.Reply.TheVariants as reply
 use Rattle.cckd_shelf.specs.Seen.{seen}
-use Rattle.cckd_stack.specs.Answers.{Answer}
 use Rattle.cckd_stack.proofs.TiedLemmas.{tied_reads_all}
 use Rattle.cckd_engine.specs.Calls.{asks, answer_in}
 use Rattle.cckd_engine.specs.Performs.{Performs}
 use Rattle.cckd_stack.proofs.SomeLemmas.{files_some, sure_changed}
 use Rattle.cckd_engine.proofs.CallLemmas.{harden_does, still_quiet}
+use Rattle.cckd_engine.proofs.RoomLemmas.{stays_last, unchanged_ok}
 use Rattle.cckd_engine.proofs.FrameLemmas.{closes_spare}
 use Rattle.cckd_engine.proofs.TrackCallLemmas.{done_plain}
+use Rattle.cckd_stack.specs.Answers.{Answer, plain}
+use Rattle.cckd_stack.specs.Writes.{AreUnchanged, reply_by}
+use Rattle.cckd_engine.proofs.ClosingLemmas.{closes_by, close_open}
 use Rattle.cckd_engine.proofs.stack_disk.close.Goals as goal
 
 pub close-made-requires-clause-can_read : goal.close-made-requires-clause-can_read
@@ -31,4 +34,8 @@ returns g c = λ given out.
     (files_some old.layers new.layers done.files c.requires.stack.some) (λ told. sure_changed old.layers before.world after.world (done.others told))
     (closes_spare old new before after done.files done.calm done.others)
     call.Close given reply.Closed refl refl refl refl refl done.map done.settles done.refusal done.counts
-    (λ unchanged. let still = done.still (unchanged) in still_quiet old new before after still.1 still.2 unchanged))
+    (λ unchanged. let still = done.still (unchanged) in still_quiet old new before after still.1 still.2 unchanged)
+    c.requires.stack.layers (stays_last old.layers new.layers c.requires.stack.some done.files done.confined) (unchanged_ok (Unit {0}) made new.layers (files_some old.layers new.layers done.files c.requires.stack.some) done.unchanged)
+    (λ whole again.
+    closes_by (asks call.Close given) (plain (reply_by reply.Closed made)) old new before after done.geometry done.files
+    (λ fine. done.marks (whole fine)) again (λ closed. close_open call.Close made (AreUnchanged new.layers) done.unchanged closed)))

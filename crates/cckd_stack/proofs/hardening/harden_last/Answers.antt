@@ -1,8 +1,10 @@
+use Rattle.cckd_layer.specs.Justified.{StaysInRoom}
 use Rattle.std.proofs.Common.{◌≡◌, ◌-◌, true, length, refl, ◌∙◌, ap, arith, get_or}
 use Rattle.cckd_shelf.specs.Seen.{seen}
 use Rattle.cckd_layer.specs.Mounted.{LayerState}
 use Rattle.cckd_layer.specs.Writes.{IsSameLayer}
 use Rattle.cckd_stack.proofs.WritesLemmas.{whole_keeps, still_ties, same_file, set_last, set_ends, set_layers, set_whole, set_keeps_each, set_lies, set_settles_ok, set_others}
+use Rattle.cckd_stack.proofs.MarkingLemmas.{set_marks, mark_hardened}
 use Rattle.cckd_stack.proofs.hardening.harden_last.Goals as goal
 
 pub returns-clause-settles : goal.returns-clause-settles
@@ -81,3 +83,22 @@ returns-clause-others g c =
     set_others layers n x y (ap (λ (d : LayerState). get_or layers n d) c.index-layers-last.is) (omega (arith, c.requires.some))
     g.U.Unit.null_bytes c.args.geo.now (seen g.T.Shows c.args.stage.now) (seen g.T.Shows c.harden.new.stage) c.requires.layers (same_file x y c.harden.ensures.same) c.harden.ensures.others
     n refl
+
+pub returns-clause-confined : goal.returns-clause-confined
+returns-clause-confined g c =
+    let layers = c.args.layers.now in
+    let n = length layers - 1 in
+    let x = get_or layers n c.index-layers-last.result in
+    let y = c.harden.new.self in
+    set_last layers n x y (ap (λ (d : LayerState). get_or layers n d) c.index-layers-last.is) (omega (arith, c.requires.some)) StaysInRoom c.harden.ensures.confined
+
+pub returns-clause-marks : goal.returns-clause-marks
+returns-clause-marks g c = λ whole.
+    let layers = c.args.layers.now in
+    let n = length layers - 1 in
+    let x = get_or layers n c.index-layers-last.result in
+    let y = c.harden.new.self in
+    let old = seen g.T.Shows c.args.stage.now in
+    let new = seen g.T.Shows c.harden.new.stage in
+    set_marks c.args.geo.now layers n x y old new (ap (λ (d : LayerState). get_or layers n d) c.index-layers-last.is) (omega (arith, c.requires.some)) c.requires.layers c.harden.ensures.others
+    (mark_hardened x y old new c.harden.ensures.same (λ hardened. let h = c.harden.ensures.still hardened in (h.1, h.2)))

@@ -2,7 +2,7 @@ use Rattle.std.proofs.Common.{◌≡◌, true, Some, None, refl, sym, ◌∙◌,
 use Rattle.cckd_base.specs.declared.geometry.Layout.{Layout}
 use Rattle.cckd_shelf.specs.Seen.{seen}
 use Rattle.cckd_shelf.proofs.FrameLemmas.{only_stays}
-use Rattle.cckd_stack.proofs.ReadyLemmas.{beside_file, same_file_of, marked_ready, nothing_still, complete_looked, complete_refusal, not_at_fault, same_fault}
+use Rattle.cckd_stack.proofs.ReadyLemmas.{beside_file, same_file_of, marked_ready, nothing_still, complete_looked, complete_refusal, not_at_fault, same_fault, outside_kind}
 use Rattle.cckd_layer.proofs.ExcessLemmas.{looked_nothing}
 use Rattle.cckd_stack.proofs.writing.ready.Goals as goal
 
@@ -61,3 +61,6 @@ returns-in-Err-clause-same g c = same_file_of c.args.layer.now
 
 pub returns-in-Err-clause-others : goal.returns-in-Err-clause-others
 returns-in-Err-clause-others g c = only_stays c.args.layer.now.slot (seen g.T.Shows c.args.stage.now) (seen g.T.Shows c.args.stage.now) (λ told. refl)
+
+pub returns-in-Ok-clause-kind : goal.returns-in-Ok-clause-kind
+returns-in-Ok-clause-kind g c = outside_kind c.complete.result c.complete.ensures.refusal

@@ -1,10 +1,11 @@
-use Rattle.std.proofs.Common.{◌≡◌, ◌-◌, true, length, Some, None, OnOk, IfErr, refl, sym, ap, subst, arith, get_or}
+use Rattle.std.proofs.Common.{◌≡◌, ◌-◌, true, length, Some, None, OnOk, IfErr, refl, sym, ap, subst, arith, get_or, ◌/◌}
 use Rattle.cckd_shelf.specs.Seen.{seen}
 use Rattle.cckd_base.specs.declared.geometry.Geometry.{Geometry}
 use Rattle.cckd_layer.specs.Storing.{IsWriteRefusal}
 use Rattle.cckd_layer.specs.Mounted.{LayerState}
 use Rattle.cckd_layer.specs.Writes.{IsSameFile}
-use Rattle.cckd_stack.proofs.WritesLemmas.{set_device, set_tied, set_ends, set_last, set_layers, set_stores_ok, set_keeps_harmless, set_geometry, set_back, set_refusal, set_lies, set_others}
+use Rattle.cckd_stack.proofs.WritesLemmas.{set_device, set_tied, set_ends, set_last, set_layers, set_stores_ok, set_keeps_harmless, set_geometry, set_back, set_refusal, set_lies, set_others, set_grows, set_stays, set_lacks}
+use Rattle.cckd_stack.proofs.MarkingLemmas.{set_marks, mark_written}
 use Rattle.cckd_stack.proofs.writing.write_last.Goals as goal
 
 pub write_ready-requires-clause-track : goal.write_ready-requires-clause-track
@@ -116,3 +117,38 @@ returns-clause-marked g c =
     let x = get_or layers n c.index-layers-last.result in
     let y = c.write_ready.new.layer in
     set_ends layers n x y (ap (λ (d : LayerState). get_or layers n d) c.index-layers-last.is) (omega (arith, c.requires.some)) (λ layer. layer.marked ≡ true) c.write_ready.result c.write_ready.ensures.marked
+
+pub returns-clause-grows : goal.returns-clause-grows
+returns-clause-grows g c =
+    let layers = c.args.layers.now in
+    let n = length layers - 1 in
+    let x = get_or layers n c.index-layers-last.result in
+    let y = c.write_ready.new.layer in
+    set_grows layers n x y (ap (λ (d : LayerState). get_or layers n d) c.index-layers-last.is) (omega (arith, c.requires.some)) (c.args.t.0 / 256) c.write_ready.result c.write_ready.ensures.grows
+
+pub returns-clause-stays : goal.returns-clause-stays
+returns-clause-stays g c = λ whole.
+    let layers = c.args.layers.now in
+    let n = length layers - 1 in
+    let x = get_or layers n c.index-layers-last.result in
+    let y = c.write_ready.new.layer in
+    set_stays layers n x y (ap (λ (d : LayerState). get_or layers n d) c.index-layers-last.is) (omega (arith, c.requires.some)) c.write_ready.result whole c.write_ready.ensures.stays
+
+pub returns-clause-lacks : goal.returns-clause-lacks
+returns-clause-lacks g c = λ told sure.
+    let layers = c.args.layers.now in
+    let n = length layers - 1 in
+    let x = get_or layers n c.index-layers-last.result in
+    let y = c.write_ready.new.layer in
+    set_lacks layers n x y (ap (λ (d : LayerState). get_or layers n d) c.index-layers-last.is) (omega (arith, c.requires.some)) g.U.Unit.null_bytes (seen g.T.Shows c.write_ready.new.stage) c.args.t.0 (g.U.Unit.value c.args.bytes.now) c.write_ready.result (c.write_ready.ensures.lacks told sure)
+
+pub returns-clause-marks : goal.returns-clause-marks
+returns-clause-marks g c = λ whole.
+    let layers = c.args.layers.now in
+    let n = length layers - 1 in
+    let x = get_or layers n c.index-layers-last.result in
+    let y = c.write_ready.new.layer in
+    let old = seen g.T.Shows c.args.stage.now in
+    let new = seen g.T.Shows c.write_ready.new.stage in
+    set_marks c.args.geo.now layers n x y old new (ap (λ (d : LayerState). get_or layers n d) c.index-layers-last.is) (omega (arith, c.requires.some)) c.requires.layers c.write_ready.ensures.others
+    (mark_written x y old new c.write_ready.result c.write_ready.ensures.same whole c.write_ready.ensures.marked c.write_ready.ensures.unharmed)

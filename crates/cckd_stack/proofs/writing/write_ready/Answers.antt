@@ -1,4 +1,4 @@
-use Rattle.std.proofs.Common.{◌≡◌, ◌<◌, Some, None, Err, OnOk, sym, ◌∙◌, ap, subst}
+use Rattle.std.proofs.Common.{◌≡◌, ◌<◌, Some, None, Err, OnOk, sym, ◌∙◌, ap, subst, ◌/◌}
 use Rattle.cckd_base.specs.declared.geometry.Geometry.{Geometry}
 use Rattle.cckd_base.specs.declared.geometry.Layout.{Layout}
 use Rattle.cckd_base.specs.Geometry.{track_count}
@@ -7,7 +7,8 @@ use Rattle.cckd_shelf.specs.Seen.{seen}
 use Rattle.cckd_layer.specs.Writes.{CountsLayer}
 use Rattle.cckd_layer.proofs.StepLemmas.{only_then}
 use Rattle.cckd_layer.proofs.SureLemmas.{sure_spared}
-use Rattle.cckd_stack.proofs.ReadyLemmas.{ready_stores, ready_kept, ready_refusal, ready_stopped, looked_keeps, still_stopped, file_then}
+use Rattle.cckd_stack.proofs.ReadyLemmas.{ready_stores, ready_kept, ready_refusal, ready_stopped, looked_keeps, still_stopped, file_then, ready_grows, ready_stays, ready_lacks, kind_lacks}
+use Rattle.cckd_stack.proofs.MarkingLemmas.{ready_unharmed, only_looked_unharmed}
 use Rattle.cckd_stack.proofs.writing.write_ready.Goals as goal
 
 pub write-requires-clause-track : goal.write-requires-clause-track
@@ -111,3 +112,49 @@ returns-in-Err-clause-stopped g c =
     let a = seen g.T.Shows c.args.stage.now in
     let b = seen g.T.Shows c.ready.new.stage in
     still_stopped null s m a b (λ told. told) c.ready.ensures.still
+
+pub returns-in-Ok-clause-grows : goal.returns-in-Ok-clause-grows
+returns-in-Ok-clause-grows g c =
+    let null = g.U.Unit.null_bytes in
+    let s = c.args.layer.now in
+    let m = c.ready.new.layer in
+    let n = c.write.new.self in
+    let a = seen g.T.Shows c.args.stage.now in
+    let b = seen g.T.Shows c.ready.new.stage in
+    let z = seen g.T.Shows c.write.new.stage in
+    ready_grows null s m n a b z (λ told. told) c.ready.ensures.same c.in-Ok.ensures.completed c.ready.ensures.still c.write.result (c.args.t.0 / 256) c.ready.ensures.confined c.write.ensures.grows
+
+pub returns-in-Ok-clause-stays : goal.returns-in-Ok-clause-stays
+returns-in-Ok-clause-stays g c =
+    let null = g.U.Unit.null_bytes in
+    let s = c.args.layer.now in
+    let m = c.ready.new.layer in
+    let n = c.write.new.self in
+    let a = seen g.T.Shows c.args.stage.now in
+    let b = seen g.T.Shows c.ready.new.stage in
+    let z = seen g.T.Shows c.write.new.stage in
+    ready_stays null s m n a b z (λ told. told) c.ready.ensures.same c.in-Ok.ensures.completed c.ready.ensures.still c.write.result c.ready.ensures.confined c.write.ensures.stays
+
+pub returns-in-Ok-clause-lacks : goal.returns-in-Ok-clause-lacks
+returns-in-Ok-clause-lacks g c = λ told sure.
+    let null = g.U.Unit.null_bytes in
+    let s = c.args.layer.now in
+    let m = c.ready.new.layer in
+    let n = c.write.new.self in
+    let a = seen g.T.Shows c.args.stage.now in
+    let b = seen g.T.Shows c.ready.new.stage in
+    let z = seen g.T.Shows c.write.new.stage in
+    ready_lacks null s m n a b z (λ told. told) c.ready.ensures.same c.in-Ok.ensures.completed c.ready.ensures.still c.write.result (g.U.Unit.fault m.tables.layout.geo c.args.t.0 c.args.bytes.now) c.args.t.0 (g.U.Unit.value c.args.bytes.now) c.write.ensures.refusal c.write.ensures.same told sure
+
+pub returns-in-Err-clause-lacks : goal.returns-in-Err-clause-lacks
+returns-in-Err-clause-lacks g c = λ told sure.
+    kind_lacks g.U.Unit.null_bytes c.ready.new.layer (seen g.T.Shows c.ready.new.stage) c.args.t.0 (g.U.Unit.value c.args.bytes.now) c.in-Err.fault c.in-Err.ensures.kind
+
+pub returns-in-Ok-clause-unharmed : goal.returns-in-Ok-clause-unharmed
+returns-in-Ok-clause-unharmed g c =
+    ready_unharmed g.U.Unit.null_bytes c.args.layer.now c.ready.new.layer c.write.new.self (seen g.T.Shows c.args.stage.now) (seen g.T.Shows c.ready.new.stage) (seen g.T.Shows c.write.new.stage)
+    c.write.result (λ told. told) c.ready.ensures.same c.ready.ensures.still c.write.ensures.unharmed
+
+pub returns-in-Err-clause-unharmed : goal.returns-in-Err-clause-unharmed
+returns-in-Err-clause-unharmed g c = λ harmless.
+    only_looked_unharmed c.args.layer.now c.ready.new.layer (seen g.T.Shows c.args.stage.now) (seen g.T.Shows c.ready.new.stage) (c.in-Err.ensures.looked harmless)

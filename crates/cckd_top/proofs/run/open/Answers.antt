@@ -11,9 +11,9 @@ returns-in_default g c =
 pub returns-in-Ok-mount : goal.returns-in-Ok-mount
 returns-in-Ok-mount g c =
     let of = c.in-Ok-mount.ensures in
-    opens_disk g.T.Shows _ c.args.file.now c.args.stage c.bind_all.new.stage c.in-Ok-mount.engine (length c.in-Ok-mount.engine.disk.layers)
+    opens_disk g.T.Shows _ c.args.file.now c.args.limit c.args.stage c.bind_all.new.stage c.in-Ok-mount.engine (length c.in-Ok-mount.engine.disk.layers)
     c.in-Ok.ensures.bound c.in-Ok.ensures.fails.still (λ told. g.T.Shows.tied c.bind_all.new.stage told) of.synced of.counts
-    (λ told sure. (of.mounted told sure).row) of.opens of.stands of.agrees of.new.calls of.new.mute
+    (λ told sure. (of.mounted told sure).row) of.opens of.stands of.room of.agrees of.marks of.new.calls of.new.mute
     of.runs of.unchanged of.few of.spares
 
 pub returns-in-Err : goal.returns-in-Err

@@ -12,10 +12,10 @@ serve_to_end-requires-clause-heard g c = c.in-Ok.ensures.heard
 
 pub returns-in-Ok : goal.returns-in-Ok
 returns-in-Ok g c =
-    disk_served g.T.Shows _ c.args.stage c.serve_to_end.result.0 c.in-Ok.engine c.args.file.now c.serve_to_end.result.1
+    disk_served g.T.Shows _ c.args.stage c.serve_to_end.result.0 c.in-Ok.engine c.args.file.now c.args.limit c.serve_to_end.result.1
     c.in-Ok.ensures c.serve_to_end.ensures
 
 pub returns-in-Err : goal.returns-in-Err
 returns-in-Err g c =
-    disk_fails g.T.Shows c.args.stage c.in-Err.left c.end_halted-code.new.stage c.args.file.now c.in-Err.why c.end_halted-code.result
+    disk_fails g.T.Shows c.args.stage c.in-Err.left c.end_halted-code.new.stage c.args.file.now c.args.limit c.in-Err.why c.end_halted-code.result
     c.in-Err.ensures c.end_halted-code.ensures.said c.end_halted-code.ensures.puts

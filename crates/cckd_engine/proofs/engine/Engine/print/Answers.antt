@@ -1,5 +1,6 @@
 use Rattle.std.proofs.Common.{refl}
 use Rattle.cckd_shelf.specs.Seen.{seen}
+use Rattle.cckd_engine.proofs.ClosingLemmas.{tells_since_puts}
 use Rattle.cckd_engine.proofs.ServeLemmas.{stands_at_text, tells_at_puts, notes}
 use Rattle.cckd_engine.proofs.engine.Engine.print.Goals as goal
 
@@ -23,3 +24,8 @@ pub returns-clause-agrees : goal.returns-clause-agrees
 returns-clause-agrees g c = λ told tells.
     tells_at_puts (g.D.Disk.agrees c.args.self.now.disk) c.args.self.now.broken c.args.text.now (g.T.Shows.world c.args.self.now.stage)
     (g.T.Shows.world c.put_all.new.stage) (g.met.D.Disk.agrees_at_put c.args.self.now.disk) (c.put_all.ensures.front told) tells
+
+pub returns-clause-closes : goal.returns-clause-closes
+returns-clause-closes g c = λ base h told was.
+    tells_since_puts (g.D.Disk.marks c.args.self.now.disk) c.args.self.now.broken base h h c.args.text.now (g.T.Shows.world c.args.self.now.stage) (g.T.Shows.world c.put_all.new.stage)
+    (g.met.D.Disk.marks_at_put c.args.self.now.disk) (c.put_all.ensures.front told) (λ closed. closed) was

@@ -1,9 +1,12 @@
-use Rattle.std.proofs.Common.{◌≡◌, Bool, true, false, not, refl, sym, ◌∙◌, ap}
+use Rattle.cckd_stack.specs.Layers.{base, empty_layer}
+use Rattle.std.proofs.Common.{◌≡◌, Bool, true, false, not, refl, sym, ◌∙◌, ap, [], ◌∷◌}
 use Rattle.cckd_shelf.specs.Seen.{Seen, seen}
 use Rattle.cckd_script.specs.Text.{answered_bytes, reply_line}
 use Rattle.cckd_engine.specs.Calls.{asks, answer_in}
+use Rattle.cckd_engine.specs.Engine.{entry_of}
+use Rattle.cckd_engine.proofs.ClosingLemmas.{tells_since_puts}
 use Rattle.cckd_engine.proofs.FrameLemmas.{spares_and_puts}
-use Rattle.cckd_engine.proofs.ServeLemmas.{stands_at_puts, serves_line, tells_at_puts, front_put, whole_put}
+use Rattle.cckd_engine.proofs.ServeLemmas.{stands_at_puts, room_at_puts, files_at_puts_of, serves_line, tells_at_puts, front_put, whole_put}
 use Rattle.cckd_engine.proofs.engine.Engine.serve.Goals as goal
 
 pub returns-clause-stands : goal.returns-clause-stands
@@ -61,3 +64,31 @@ returns-clause-spares g c =
     (reply_line c.args.call c.step-reply.result (answered_bytes c.step-reply.result c.step-reply.new.out))
     (seen g.T.Shows c.args.self.now.stage) (seen g.T.Shows c.step-reply.new.self.stage) (seen g.T.Shows c.put_line-self.new.stage) (λ told. told)
     c.step-reply.ensures.spares c.put_line-self.ensures.front
+
+pub returns-clause-room : goal.returns-clause-room
+returns-clause-room g c = λ s0 h room told stands keeps.
+    room_at_puts c.args.who (asks c.args.call c.args.input.now) (answer_in c.step-reply.result c.step-reply.new.out) s0 h
+    (reply_line c.args.call c.step-reply.result (answered_bytes c.step-reply.result c.step-reply.new.out))
+    (g.T.Shows.world c.step-reply.new.self.stage) (g.T.Shows.world c.put_line-self.new.stage) (c.put_line-self.ensures.front told)
+    (g.D.Disk.has_room c.step-reply.new.self.disk) room
+    (g.D.Disk.geometry c.step-reply.new.self.disk) (g.D.Disk.stack c.step-reply.new.self.disk) c.step-reply.new.self.calls
+    c.step-reply.new.self.broken c.step-reply.new.self.tally
+    (c.step-reply.ensures.room c.args.who s0 h room told stands keeps)
+
+pub returns-clause-files : goal.returns-clause-files
+returns-clause-files g c = λ told.
+    let moved = ((c.step-reply.ensures.spares).leaves told).others in
+    files_at_puts_of c.args.who (asks c.args.call c.args.input.now) (answer_in c.step-reply.result c.step-reply.new.out) (base empty_layer) []
+    (reply_line c.args.call c.step-reply.result (answered_bytes c.step-reply.result c.step-reply.new.out))
+    (g.T.Shows.world c.step-reply.new.self.stage) (g.T.Shows.world c.put_line-self.new.stage) (c.put_line-self.ensures.front told)
+    (g.T.Shows.world c.args.self.now.stage) (record { newer = moved.newer; grown = moved.grown }) (c.step-reply.ensures.run told).output
+
+pub returns-clause-closes : goal.returns-clause-closes
+returns-clause-closes g c = λ base h told tells was.
+    let r = asks c.args.call c.args.input.now in
+    let said = answer_in c.step-reply.result c.step-reply.new.out in
+    let mid = g.T.Shows.world c.step-reply.new.self.stage in
+    let new = g.T.Shows.world c.put_line-self.new.stage in
+    tells_since_puts (g.D.Disk.marks c.step-reply.new.self.disk) c.step-reply.new.self.broken base (entry_of c.args.who r said mid.events ∷ h) (entry_of c.args.who r said new.events ∷ h)
+    (reply_line c.args.call c.step-reply.result (answered_bytes c.step-reply.result c.step-reply.new.out)) mid new
+    (g.met.D.Disk.marks_at_put c.step-reply.new.self.disk) (c.put_line-self.ensures.front told) (λ closed. closed) (c.step-reply.ensures.closes c.args.who base h told tells was)

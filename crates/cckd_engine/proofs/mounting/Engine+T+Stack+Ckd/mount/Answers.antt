@@ -3,7 +3,7 @@ use Rattle.cckd_stack.specs.Stacked.{StackState}
 use Rattle.cckd_stack.specs.Writes.{AreUnchanged}
 use Rattle.cckd_shelf.specs.Seen.{seen}
 use Rattle.cckd_engine.proofs.FrameLemmas.{unchanged_lower}
-use Rattle.cckd_engine.proofs.MountLemmas.{just_by, just_opens, just_new, just_runs, just_agrees, just_stops, fresh_unchanged}
+use Rattle.cckd_engine.proofs.MountLemmas.{just_by, just_opens, just_new, just_runs, just_agrees, just_stops, just_room, fresh_unchanged, just_marks}
 use Rattle.cckd_engine.proofs.mounting.Engine+T+Stack+Ckd.mount.Goals as goal
 
 pub returns-in-Ok-clause-opens : goal.returns-in-Ok-clause-opens
@@ -99,3 +99,35 @@ returns-in-Ok-clause-spares g c =
 pub returns-in-Ok-clause-few : goal.returns-in-Ok-clause-few
 returns-in-Ok-clause-few g c =
     subst (λ (s : StackState). (1 ≤ length s.layers) × (length s.layers ≤ 9)) (sym c.new.ensures.disk) (c.in-Ok.ensures.stack.some, c.in-Ok.ensures.stack.few)
+
+pub returns-in-Ok-clause-room : goal.returns-in-Ok-clause-room
+returns-in-Ok-clause-room g c =
+    just_room c.args.limit c.new.result.disk (seen g.T.Shows c.args.stage) (seen g.T.Shows c.new.result.stage)
+    (just_by c.args.limit c.in-Ok.disk c.new.result.disk (seen g.T.Shows c.args.stage) (seen g.T.Shows c.mount.new.stage) (seen g.T.Shows c.new.result.stage)
+    c.new.ensures.disk (ap (seen g.T.Shows) c.new.ensures.stage) (record {
+      is = c.in-Ok.ensures.stack;
+      whole = c.in-Ok.ensures.whole;
+      fresh = c.in-Ok.ensures.fresh;
+      tells = λ told. told;
+      back = λ told. told;
+      mounted = c.in-Ok.ensures.mounted;
+      stand = c.in-Ok.ensures.stand;
+      synced = c.in-Ok.ensures.synced;
+      tied = c.in-Ok.ensures.tied;
+    }))
+
+pub returns-in-Ok-clause-marks : goal.returns-in-Ok-clause-marks
+returns-in-Ok-clause-marks g c = λ told sure snug.
+    just_marks c.args.limit c.new.result.disk (seen g.T.Shows c.args.stage) (seen g.T.Shows c.new.result.stage)
+    (just_by c.args.limit c.in-Ok.disk c.new.result.disk (seen g.T.Shows c.args.stage) (seen g.T.Shows c.mount.new.stage) (seen g.T.Shows c.new.result.stage)
+    c.new.ensures.disk (ap (seen g.T.Shows) c.new.ensures.stage) (record {
+      is = c.in-Ok.ensures.stack;
+      whole = c.in-Ok.ensures.whole;
+      fresh = c.in-Ok.ensures.fresh;
+      tells = λ told. told;
+      back = λ told. told;
+      mounted = c.in-Ok.ensures.mounted;
+      stand = c.in-Ok.ensures.stand;
+      synced = c.in-Ok.ensures.synced;
+      tied = c.in-Ok.ensures.tied;
+    })) told sure snug

@@ -1,5 +1,6 @@
+use Rattle.cckd_layer.specs.Justified.{StaysInRoom}
 use Rattle.cckd_shelf.specs.Seen.{seen}
-use Rattle.std.proofs.Common.{◌∙◌, ap}
+use Rattle.std.proofs.Common.{◌∙◌, ap, sym, subst}
 use Rattle.cckd_layer.specs.Mounted.{LayerState}
 use Rattle.cckd_layer.proofs.StepLemmas.{within_twice, maps_twice, only_then}
 use Rattle.cckd_layer.proofs.ClosedLayerLemmas.{hardened_holds}
@@ -73,3 +74,6 @@ returns-in-Ok-clause-closed g c =
     let z = seen g.T.Shows c.close_anew.new.stage in
     λ told agrees marked. stays_closed g.U.Unit.null_bytes s m c.close_anew.new.self a b z (λ told. told) c.harden_anew.ensures.same c.in-Ok.ensures.closes c.in_ok-harden_anew.ensures.hardened
     c.in_ok-harden_anew.ensures.map c.in-Ok.ensures.map c.in-Ok.ensures.closed told agrees
+
+pub returns-in-Ok-clause-confined : goal.returns-in-Ok-clause-confined
+returns-in-Ok-clause-confined g c = subst (StaysInRoom c.args.self.now) (sym c.in-Ok.ensures.closes) (record { tables = c.harden_anew.ensures.confined.tables; empty = c.harden_anew.ensures.confined.empty; size = c.harden_anew.ensures.confined.size })

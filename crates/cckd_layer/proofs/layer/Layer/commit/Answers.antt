@@ -5,6 +5,8 @@ use Rattle.cckd_tables.specs.declared.staged.StagedWord.{StagedWord}
 use Rattle.cckd_layer.specs.Mounted.{LayerState}
 use Rattle.cckd_layer.specs.Writes.{StopsWithin, KeepsMap, SettlesCommit, IsCommitted}
 use Rattle.cckd_layer.proofs.WritesLemmas.{committed_agrees, commit_within, commits_of}
+use Rattle.cckd_layer.specs.Calm.{LeavesFile}
+use Rattle.cckd_layer.proofs.CalmLemmas.{commit_leaves}
 use Rattle.cckd_layer.proofs.layer.Layer.commit.Goals as goal
 
 pub returns-in-Ok-clause-map : goal.returns-in-Ok-clause-map
@@ -43,3 +45,12 @@ returns-in-Err-clause-stopped g c =
     let s : LayerState = record { slot = i.slot; header = i.header; tables = i.tables; plan = i.space; marked = i.marked; hardened = i.hardened; broken = i.broken } in
     subst (λ (x : LayerState). StopsWithin g.U.Unit.null_bytes x old new) c.self.view_is
     (commit_within g.U.Unit.null_bytes s old new c.layout-layout.ensures.tables c.commit.ensures.stopped)
+
+pub returns-in-Ok-clause-leaves : goal.returns-in-Ok-clause-leaves
+returns-in-Ok-clause-leaves g c =
+    let i = c.self.inside in
+    let old = seen g.T.Shows c.args.stage.now in
+    let new = seen g.T.Shows c.commit.new.stage in
+    let s : LayerState = record { slot = i.slot; header = i.header; tables = i.tables; plan = i.space; marked = i.marked; hardened = i.hardened; broken = i.broken } in
+    subst (λ (x : LayerState). LeavesFile x old new) c.self.view_is
+    (commit_leaves s old new c.layout-layout.ensures.tables c.commit.ensures.stopped c.in-Ok.ensures.now)

@@ -1,10 +1,14 @@
-use Rattle.std.proofs.Common.{[], Option, Ok, sym, subst}
+use Rattle.std.proofs.Common.{[], Option, Result, Ok, Err, sym, ap, subst}
 use Rattle.cckd_shelf.specs.Seen.{seen}
 use Rattle.cckd_layer.specs.declared.preparing.Room.{Room}
 use Rattle.cckd_layer.specs.Writes.{claims_of}
 use Rattle.cckd_layer.specs.Preparing.{IsDenial, IsUnplaced}
 use Rattle.cckd_layer.proofs.ThenLemmas.{same_file, same_file_twice, act_still, act_hardened, act_then, maps_then, map_ok, map_err, err_for}
 use Rattle.cckd_layer.proofs.PrepareLemmas.{plan_same, hardened_full}
+use Rattle.cckd_base.specs.declared.layer_fault.LayerFault.{LayerFault}
+use Rattle.cckd_layer.specs.Mounted.{LayerState}
+use Rattle.cckd_layer.specs.Calm.{KeepsUnharmed}
+use Rattle.cckd_layer.proofs.CalmLemmas.{looked_unharmed, unharmed_then, hardened_unharmed, unread_unharmed, for_errors}
 use Rattle.cckd_layer.proofs.layer.Layer.find_places.Goals as goal
 
 -- the first try did nothing to the outside, and where it gave nothing the map is as before
@@ -88,3 +92,44 @@ returns-clause-full g c =
     let kept = c.in-Ok.ensures.kept (subst (λ (o : Option Room). IsUnplaced (Ok o)) (sym c.in_default.is) tt) in
     hardened_full s m h n a b d e c.args.t.0 c.args.need c.place_hardened.result null (λ told. told) (λ told. told) kept c.in_default-harden_anew.ensures.map
     (c.place_hardened.ensures.full c.in_default-harden_anew.ensures.settled)
+
+pub returns-in-Err-clause-unharmed : goal.returns-in-Err-clause-unharmed
+returns-in-Err-clause-unharmed g c = λ denial.
+    looked_unharmed c.args.self.now c.place_at_once.new.self (seen g.T.Shows c.args.stage.now) (seen g.T.Shows c.place_at_once.new.stage)
+    (ap (λ (x : LayerState). x.marked) c.place_at_once.ensures.rest) (ap (λ (x : LayerState). x.hardened) c.place_at_once.ensures.rest) c.place_at_once.ensures.reads.kept
+
+pub returns-in-Err-harden_anew-clause-unharmed : goal.returns-in-Err-harden_anew-clause-unharmed
+returns-in-Err-harden_anew-clause-unharmed g c = λ denial.
+    let null = g.U.Unit.null_bytes in
+    let s = c.args.self.now in
+    let m = c.place_at_once.new.self in
+    let h = c.harden_anew.new.self in
+    let a = seen g.T.Shows c.args.stage.now in
+    let b = seen g.T.Shows c.place_at_once.new.stage in
+    let d = seen g.T.Shows c.harden_anew.new.stage in
+    let kept = c.in-Ok.ensures.kept (subst (λ (o : Option Room). IsUnplaced (Ok o)) (sym c.in_default.is) tt) in
+    let looked = looked_unharmed s m a b (ap (λ (x : LayerState). x.marked) c.place_at_once.ensures.rest) (ap (λ (x : LayerState). x.hardened) c.place_at_once.ensures.rest) c.place_at_once.ensures.reads.kept in
+    let same = plan_same s m c.place_at_once.ensures.rest c.place_at_once.ensures.limit in
+    unharmed_then null s m h a b d (λ told. told) same kept looked
+    (unread_unharmed m h b d c.in-Err-harden_anew.fault (λ why. c.in-Err-harden_anew.ensures.read (let failed : LayerFault → Result (Unit {0}) LayerFault = λ x. Err x in ap failed why)) c.in-Err-harden_anew.ensures.refusal denial)
+
+pub returns-clause-unharmed : goal.returns-clause-unharmed
+returns-clause-unharmed g c =
+    let null = g.U.Unit.null_bytes in
+    let s = c.args.self.now in
+    let m = c.place_at_once.new.self in
+    let h = c.harden_anew.new.self in
+    let a = seen g.T.Shows c.args.stage.now in
+    let b = seen g.T.Shows c.place_at_once.new.stage in
+    let d = seen g.T.Shows c.harden_anew.new.stage in
+    let kept = c.in-Ok.ensures.kept (subst (λ (o : Option Room). IsUnplaced (Ok o)) (sym c.in_default.is) tt) in
+    let looked = looked_unharmed s m a b (ap (λ (x : LayerState). x.marked) c.place_at_once.ensures.rest) (ap (λ (x : LayerState). x.hardened) c.place_at_once.ensures.rest) c.place_at_once.ensures.reads.kept in
+    let same = plan_same s m c.place_at_once.ensures.rest c.place_at_once.ensures.limit in
+    let n = c.place_hardened.new.self in
+    let e = seen g.T.Shows c.place_hardened.new.stage in
+    let hard = hardened_unharmed m h b d c.harden_anew.ensures.same c.in_default-harden_anew.ensures.hardened c.in_default-harden_anew.ensures.leaves in
+    let one = unharmed_then null s m h a b d (λ told. told) same kept looked hard in
+    let both = maps_then [] [] [] null s m h a b d (λ told. told) same kept c.in_default-harden_anew.ensures.map in
+    let last = looked_unharmed h n d e (ap (λ (x : LayerState). x.marked) c.place_hardened.ensures.rest) (ap (λ (x : LayerState). x.hardened) c.place_hardened.ensures.rest) c.place_hardened.ensures.reads.kept in
+    for_errors (KeepsUnharmed s n a e) IsDenial c.place_hardened.result
+    (unharmed_then null s h n a d e (λ told. told) (same_file_twice s m h same (same_file m h c.harden_anew.ensures.same)) both one last)

@@ -1,5 +1,6 @@
 use Rattle.cckd_shelf.specs.Seen.{seen}
 use Rattle.cckd_layer.proofs.StepLemmas.{committed_same, within_twice, only_then, released_settled}
+use Rattle.cckd_layer.proofs.CalmLemmas.{synced_leaves}
 use Rattle.cckd_layer.proofs.layer.Layer.harden_anew.Goals as goal
 
 pub returns-in-Ok-clause-stopped : goal.returns-in-Ok-clause-stopped
@@ -41,3 +42,8 @@ returns-in-Err-make_stay-clause-others g c =
 pub returns-in-Ok-clause-settled : goal.returns-in-Ok-clause-settled
 returns-in-Ok-clause-settled g c =
     released_settled c.args.self.now c.commit.new.self c.make_stay.new.self c.in_default.ensures.committed c.in-Ok.ensures.released
+
+pub returns-in-Ok-clause-leaves : goal.returns-in-Ok-clause-leaves
+returns-in-Ok-clause-leaves g c =
+    synced_leaves c.args.self.now c.commit.new.self.slot (seen g.T.Shows c.args.stage.now) (seen g.T.Shows c.commit.new.stage) (seen g.T.Shows c.make_stay.new.stage) (λ told. told)
+    c.in_default.ensures.leaves c.in-Ok.ensures.synced

@@ -9,9 +9,11 @@ use Rattle.cckd_layer.specs.Writes.{Agrees, IsAct, KeepsMapWith, claims_of}
 use Rattle.cckd_layer.specs.Preparing.{IsNoRoomIn, SuitsFile}
 use Rattle.cckd_layer.proofs.CallerLemmas.{agrees_reads}
 use Rattle.cckd_layer.proofs.SureLemmas.{sure_spared}
-use Rattle.cckd_layer.proofs.ThenLemmas.{act_still, act_then, maps_then}
+use Rattle.cckd_layer.proofs.ThenLemmas.{same_file_twice, act_still, act_then, maps_then}
 use Rattle.cckd_layer.proofs.PrepareLemmas.{kept_unread, map_same, looked_same}
 use Rattle.cckd_layer.proofs.ReadyLemmas.{outside_refusal, no_room_refusal, prepared, ready_still}
+use Rattle.cckd_layer.specs.Calm.{KeepsUnharmed}
+use Rattle.cckd_layer.proofs.CalmLemmas.{looked_unharmed, unharmed_then, unread_unharmed, freed_unharmed}
 use Rattle.cckd_layer.proofs.layer.Layer.prepare.Goals as goal
 
 pub make_free_stages-requires-clause-can_read : goal.make_free_stages-requires-clause-can_read
@@ -178,3 +180,60 @@ returns-in-Err-find_places-clause-alone g c = λ told agrees free spare room.
     let still = c.make_free_stages.ensures.still free in
     ready_still null s m f h n a b d e c.args.t.0 c.stored-stored.result c.need.result value f.tables.cached (λ x. x) (λ x. x) still.1 still.2 c.find_entry.ensures.rest c.find_entry.ensures.reads.kept sameH c.need.ensures stored room spare
     (λ x y. (map x y).agrees) c.find_places.ensures.finds told agrees
+
+pub returns-in-Err-find_places-clause-kept : goal.returns-in-Err-find_places-clause-kept
+returns-in-Err-find_places-clause-kept g c = λ denial.
+    let null = g.U.Unit.null_bytes in
+    let s = c.args.self.now in
+    let m = c.make_free_stages.new.self in
+    let a = seen g.T.Shows c.args.stage.now in
+    let b = seen g.T.Shows c.make_free_stages.new.stage in
+    let f = c.find_entry.new.self in
+    let d = seen g.T.Shows c.find_entry.new.stage in
+    let n = c.find_places.new.self in
+    let e = seen g.T.Shows c.find_places.new.stage in
+    let sameM = c.make_free_stages.ensures.act.same in
+    let sameF = looked_same m f f.tables.cached c.find_entry.ensures.rest in
+    let map = maps_then [] [] [] null s m f a b d (λ told. told) sameM c.in_default.ensures.map c.find_entry.ensures.map in
+    maps_then [] [] [] null s f n a d e (λ told. told) (same_file_twice s m f sameM sameF) map
+    (subst (λ (x : LayerState). KeepsMapWith [] [] null x n d e) c.stored-stored.ensures.same (c.in-Err-find_places.ensures.kept denial))
+
+pub returns-in-Err-clause-unharmed : goal.returns-in-Err-clause-unharmed
+returns-in-Err-clause-unharmed g c =
+    unread_unharmed c.args.self.now c.make_free_stages.new.self (seen g.T.Shows c.args.stage.now) (seen g.T.Shows c.make_free_stages.new.stage) c.in-Err.fault
+    (λ why. c.in-Err.ensures.read (let failed : LayerFault → Result (Unit {0}) LayerFault = λ x. Err x in ap failed why)) c.in-Err.ensures.refusal
+
+pub returns-in-Err-find_entry-clause-unharmed : goal.returns-in-Err-find_entry-clause-unharmed
+returns-in-Err-find_entry-clause-unharmed g c = λ denial.
+    let null = g.U.Unit.null_bytes in
+    let s = c.args.self.now in
+    let m = c.make_free_stages.new.self in
+    let f = c.find_entry.new.self in
+    let a = seen g.T.Shows c.args.stage.now in
+    let b = seen g.T.Shows c.make_free_stages.new.stage in
+    let d = seen g.T.Shows c.find_entry.new.stage in
+    let freed = freed_unharmed s m a b c.in_default.ensures.marked (λ free. let r = c.make_free_stages.ensures.still free in (r.1, r.2)) in
+    let looked = looked_unharmed m f b d (ap (λ (x : LayerState). x.marked) c.find_entry.ensures.rest) (ap (λ (x : LayerState). x.hardened) c.find_entry.ensures.rest) c.find_entry.ensures.reads.kept in
+    let one = unharmed_then null s m f a b d (λ told. told) c.make_free_stages.ensures.act.same c.in_default.ensures.map freed looked in
+    one
+
+pub returns-in-Err-find_places-clause-unharmed : goal.returns-in-Err-find_places-clause-unharmed
+returns-in-Err-find_places-clause-unharmed g c = λ denial.
+    let null = g.U.Unit.null_bytes in
+    let s = c.args.self.now in
+    let m = c.make_free_stages.new.self in
+    let f = c.find_entry.new.self in
+    let a = seen g.T.Shows c.args.stage.now in
+    let b = seen g.T.Shows c.make_free_stages.new.stage in
+    let d = seen g.T.Shows c.find_entry.new.stage in
+    let freed = freed_unharmed s m a b c.in_default.ensures.marked (λ free. let r = c.make_free_stages.ensures.still free in (r.1, r.2)) in
+    let looked = looked_unharmed m f b d (ap (λ (x : LayerState). x.marked) c.find_entry.ensures.rest) (ap (λ (x : LayerState). x.hardened) c.find_entry.ensures.rest) c.find_entry.ensures.reads.kept in
+    let one = unharmed_then null s m f a b d (λ told. told) c.make_free_stages.ensures.act.same c.in_default.ensures.map freed looked in
+    let h = c.stored-stored.new.self in
+    let n = c.find_places.new.self in
+    let e = seen g.T.Shows c.find_places.new.stage in
+    let sameF = looked_same m f f.tables.cached c.find_entry.ensures.rest in
+    let map = maps_then [] [] [] null s m f a b d (λ told. told) c.make_free_stages.ensures.act.same c.in_default.ensures.map c.find_entry.ensures.map in
+    let file = same_file_twice s m f c.make_free_stages.ensures.act.same sameF in
+    let last = subst (λ (x : LayerState). KeepsUnharmed x n d e) c.stored-stored.ensures.same (c.in-Err-find_places.ensures.unharmed denial) in
+    unharmed_then null s f n a d e (λ told. told) file map one last

@@ -1,3 +1,4 @@
+use Rattle.cckd_layer.proofs.InRoomLemmas.{room_table}
 use Rattle.std.proofs.Common.{◌/◌, ℕ, Option, refl, sym, ap, subst}
 use Rattle.cckd_tables.specs.Staging.{Stages, IsMoved}
 use Rattle.cckd_tables.specs.Stages.{with_word}
@@ -32,3 +33,6 @@ returns-in-Some-clause-map g c = λ claims pos len e w k told.
     let p = subst (λ (o : Option ℕ). CanPlace claims s c.args.t.0 pos o e len w) c.in-Some.is k in
     let again = c.stage_table.ensures.map claims w (p.new refl) told (table_first claims e q s w.world p.takes p.agrees) in
     again
+
+pub returns-in-Some-clause-confined : goal.returns-in-Some-clause-confined
+returns-in-Some-clause-confined g c = room_table (c.args.t.0 / 256) c.in-Some.pos c.args.self.now c.stage_table.new.self c.stage_table.ensures.staged c.stage_table.ensures.size

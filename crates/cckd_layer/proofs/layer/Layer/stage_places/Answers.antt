@@ -1,4 +1,5 @@
-use Rattle.std.proofs.Common.{◌≡◌, ℕ, List, [], length, IsSome, sym, ◌∙◌, ap, subst}
+use Rattle.cckd_layer.proofs.InRoomLemmas.{room_track}
+use Rattle.std.proofs.Common.{◌≡◌, ℕ, List, [], length, IsSome, sym, ◌∙◌, ap, subst, ◌/◌}
 use Rattle.cckd_shelf.specs.World.{file_of}
 use Rattle.cckd_base.specs.declared.entry.L2Entry.{L2Entry}
 use Rattle.cckd_base.specs.Entry.{bytes_by_entry}
@@ -23,3 +24,10 @@ returns-clause-map g c = λ claims w k told.
     subst (λ (x : ℕ). c.args.len ≡ length (file_of w.world x)) (sym same.slot) (k.length_is (subst (λ (es : List StagedEntry). IsSome (entry_for t es)) c.stage_new_table.ensures.entries st)) in
     stores_then [] null s m n t (bytes_by_entry null s.tables.layout (file_of w.world s.slot) t e) w w w same again.same
     (stores_as [] null s m n t e w same (c.stage_track.ensures.map claims [] w can points long))
+
+pub returns-clause-confined : goal.returns-clause-confined
+returns-clause-confined g c =
+    let s = c.args.self.now in
+    let m = c.stage_new_table.new.self in
+    let n = c.stage_track.new.self in
+    room_track (c.args.t.0 / 256) c.args.t.0 c.args.entry s m n c.stage_new_table.ensures.same c.stage_new_table.ensures.confined c.stage_track.ensures.staged c.stage_track.ensures.size

@@ -1,8 +1,7 @@
-use Rattle.std.proofs.Common.{◌≡◌, ◌∷◌, ◌<◌, ℕ, false, List, None, sym, ap, subst, inl, arith}
+use Rattle.std.proofs.Common.{◌∷◌, ◌<◌, ℕ, false, List, sym, ap, subst, inl, arith}
 use Rattle.cckd_shelf.specs.Seen.{Seen}
 use Rattle.cckd_base.specs.declared.space.Extent.{Extent}
 use Rattle.cckd_space.specs.Plan.{Becomes}
-use Rattle.cckd_tables.specs.Staging.{place_for}
 use Rattle.cckd_tables.specs.Tables.{TableView}
 use Rattle.cckd_tables.specs.Stages.{free_count, with_word}
 use Rattle.cckd_tables.specs.Looking.{HasAlignedTable}
@@ -29,8 +28,8 @@ returns-clause-map g c =
     let make : TableView → LayerState = λ t. record { slot = i.slot; header = i.header; tables = t; plan = c.leave_place.new.space; marked = i.marked; hardened = false; broken = i.broken } in
     let becomes = subst (λ (p : ℕ). Becomes i.space c.leave_place.new.space (left_at p i.space.pieces) i.space.size) c.word-old.ensures c.leave_place.ensures.becomes in
     let low = subst (λ (x : LayerState). group < x.tables.layout.groups) (sym c.self.view_is) c.requires.group in
-    subst (λ (x : LayerState). (claims : List Extent) (w : Seen) → place_for group x.tables.stages.words ≡ None → KeepsMapWith (claim pos 2048 ∷ claims) claims g.U.Unit.null_bytes x (make c.stage_word.new.self) w w) c.self.view_is
-    (subst (λ (t : TableView). (claims : List Extent) (w : Seen) → place_for group s.tables.stages.words ≡ None → KeepsMapWith (claim pos 2048 ∷ claims) claims g.U.Unit.null_bytes s (make t) w w) (sym c.stage_word.ensures.staged)
+    subst (λ (x : LayerState). (claims : List Extent) (w : Seen) → (HasAlignedTable x.tables group → ⊥) → KeepsMapWith (claim pos 2048 ∷ claims) claims g.U.Unit.null_bytes x (make c.stage_word.new.self) w w) c.self.view_is
+    (subst (λ (t : TableView). (claims : List Extent) (w : Seen) → (HasAlignedTable s.tables group → ⊥) → KeepsMapWith (claim pos 2048 ∷ claims) claims g.U.Unit.null_bytes s (make t) w w) (sym c.stage_word.ensures.staged)
     (λ claims w fresh told a. word_agrees claims g.U.Unit.null_bytes s c.leave_place.new.space group pos w low c.requires.place fresh becomes c.leave_place.ensures.sound a))
 
 pub returns-clause-free : goal.returns-clause-free

@@ -1,0 +1,8 @@
+use Rattle.std.proofs.Common.{refl}
+use Rattle.cckd_shelf.specs.Seen.{seen}
+use Rattle.cckd_layer.proofs.CalmLemmas.{looked_unharmed}
+use Rattle.cckd_layer.proofs.layer.Layer.write.Goals as goal
+
+pub returns-in-Err-clause-unharmed : goal.returns-in-Err-clause-unharmed
+returns-in-Err-clause-unharmed g c = λ harmless.
+    looked_unharmed c.args.self.now c.args.self.now (seen g.T.Shows c.args.stage.now) (seen g.T.Shows c.args.stage.now) refl refl (λ told. refl)
