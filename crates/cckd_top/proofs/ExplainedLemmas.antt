@@ -16,7 +16,7 @@ use Rattle.cckd_stack.specs.Marking.{IsLeftOrClosed}
 use Rattle.cckd_script.specs.Text.{line}
 use Rattle.cckd_engine.specs.declared.engine.Engine.{Engine}
 use Rattle.cckd_engine.specs.declared.disk.Disk.{Ghosts as Making}
-use Rattle.cckd_engine.specs.Lines.{HasFront, LinesAt, history_onto, AreFilesThen}
+use Rattle.cckd_engine.specs.Lines.{HasFront, LinesAt, AreFilesThen}
 use Rattle.cckd_console.specs.Counts.{RoseBy, one_more}
 use Rattle.cckd_console.specs.Saying.{IsSaid, plain_text}
 use Rattle.cckd_console.specs.Served.{Served, all_text, text_in, faults_told, line_in}
@@ -36,7 +36,6 @@ use Rattle.cckd_top.specs.World.{StayIntact, OnlyMounts, after_mounting}
 use Rattle.cckd_engine.specs.Frame.{LeavesSlots}
 use Rattle.cckd_engine.proofs.FrameLemmas.{leaves_fewer}
 use Rattle.cckd_top.proofs.BoundLemmas.{lower_names, lower_files, lower_stay}
-use Rattle.cckd_top.proofs.HardenedLemmas.{last_opens}
 use Rattle.cckd_top.proofs.SayingLemmas.{said_behind}
 use Rattle.cckd_top.proofs.WorldLemmas.{KeepsAll, intact_twice, puts_intact, mounting_keeps, binds_keep}
 
@@ -206,7 +205,6 @@ disk_served shows makes start end engine name limit status opens ends =
                   grown = second.each.grown ∙ ap (λ (w : World). second.each.newer ++ w.events) done.done;
                 };
                 after = all.after;
-                last = λ hard. last_opens g s0 (history_onto (lines_of ends.way ends.served) []) (shows.world end).events hard all.after;
                 each = subst (λ (s : List ℕ). AtEach bound.events (shows.world end).events (LinesAt g s0 [] (lines_of ends.way ends.served) s)) out all.each;
               };
           closes = λ s0 at snug closed.

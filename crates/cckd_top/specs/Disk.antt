@@ -4,13 +4,13 @@ use Rattle.std.specs.Prelude.{◌≡◌, ◌<◌, ◌≤◌, ◌-◌, ℕ, true,
 use Rattle.cckd_base.specs.declared.geometry.Geometry.{Geometry}
 use Rattle.cckd_base.specs.declared.open_fault.OpenFault.{OpenFault}
 use Rattle.cckd_base.specs.declared.open_fault.OpenFault.TheVariants as open_fault
-use Rattle.cckd_shelf.specs.Events.{name_of, output_of, file_now}
+use Rattle.cckd_shelf.specs.Events.{name_of, output_of}
 use Rattle.cckd_shelf.specs.Seen.{Seen, Tells}
 use Rattle.cckd_shelf.specs.World.{World, IsSure, file_of}
 use Rattle.cckd_base.specs.Header.{headers_of, layout_of}
 use Rattle.cckd_shelf.specs.Outcomes.{EachOutcome, OthersStill, AtEach}
 use Rattle.cckd_stack.specs.Layers.{Stack}
-use Rattle.cckd_stack.specs.History.{Entry, History, IsLegal, broken_at, stack_after}
+use Rattle.cckd_stack.specs.History.{Entry, History, IsLegal, broken_at}
 use Rattle.cckd_stack.specs.Stops.{Survives, hardens}
 use Rattle.cckd_stack.specs.Moments.{EachOpens}
 use Rattle.cckd_stack.specs.Opened.{Opens}
@@ -60,9 +60,8 @@ pub record KeepsDisk (name : List ℕ) (g : Geometry) (s0 : Stack) (lines : List
   pub row : IsRow (files_of name old) count
   pub behind : GrowsFrom (after_mounting name 9 count old).events new.events
   pub each : AtEach (after_binds name 9 old).events new.events (LinesAt g s0 [] lines (output_of old.events))
-  -- at the end it opens to what all calls may leave; and behind one that hardened, the files are the stack that the history leaves
+  -- at the end it opens to what all calls may leave
   pub after : EachOpens g (Survives g s0 (history_onto lines [])) new.events
-  pub last : EndsHardened (history_onto lines []) → Opens g (file_now new.events) (stack_after g s0 (history_onto lines []))
 
 -- The nine slots got their files, one after another, and each that is there was synced, the base first. All else comes behind that,
 -- and from then on nothing is done but to the file of the last of these: at each operation whatever a stop leaves of another slot's

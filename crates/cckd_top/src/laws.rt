@@ -2,14 +2,17 @@
 ghost use Rattle.std.specs.Prelude.{ℕ, ◌≡◌, ◌<◌, List};
 ghost use Rattle.cckd_base.specs.declared.geometry.Geometry.{Geometry as Shape};
 ghost use Rattle.cckd_base.specs.declared.open_fault.OpenFault.TheVariants.{Memory};
-ghost use Rattle.cckd_shelf.specs.Events.{file_now};
+ghost use Rattle.cckd_shelf.specs.Events.{Event, file_now};
 ghost use Rattle.cckd_shelf.specs.Seen.{Seen};
 ghost use Rattle.cckd_stack.specs.Called.{AreSnug};
-ghost use Rattle.cckd_stack.specs.History.{stack_after};
+ghost use Rattle.cckd_stack.specs.History.{History as Calls, stack_after};
 ghost use Rattle.cckd_stack.specs.Layers.{Stack as Layered};
+ghost use Rattle.cckd_stack.specs.Moments.{EachOpens};
 ghost use Rattle.cckd_stack.specs.Opened.{Opens};
+ghost use Rattle.cckd_stack.specs.Stops.{Survives};
 ghost use Rattle.cckd_console.specs.Served.{Served};
 ghost use Rattle.cckd_top.specs.declared.halt.Halt.TheVariants.{Files};
+ghost use Rattle.cckd_top.specs.Disk.{EndsHardened};
 ghost use Rattle.cckd_top.specs.Explained.{IsExplained};
 ghost use Rattle.cckd_top.specs.Names.{files_of};
 ghost use Rattle.cckd_top.specs.Run.{halted, served, closed, history_of};
@@ -29,4 +32,11 @@ pub fn runs_are_served()
         → Opens g (file_now new.world.events) (stack_after g s0 (history_of all)) }
     ensures only { (words : List (List ℕ)) (old new : Seen) (status : ℕ) → TellsFiles old → status < 2 → IsExplained words old new status
         → (g : Shape) × (s0 : Layered) × IsUnhindered words g s0 old new }
+{}
+
+/// Where the last call hardened, and none broke the disk, files of which whatever a stop leaves is what the calls may leave are
+/// the stack that they leave.
+pub fn hardened_files_are_known()
+    ensures { (g : Shape) (s0 : Layered) (h : Calls) (events : List Event) → EndsHardened h → EachOpens g (Survives g s0 h) events
+        → Opens g (file_now events) (stack_after g s0 h) }
 {}
