@@ -1,3 +1,11 @@
+ghost use Rattle.std.specs.Prelude.{◌≡◌, true, map, string_bytes, IfOk};
+ghost use Rattle.cckd_base.specs.declared.geometry.Geometry.{Geometry as Shape};
+ghost use Rattle.cckd_shelf.specs.Faults.{no_faults};
+ghost use Rattle.cckd_memory.specs.Memory.{seen_of};
+ghost use Rattle.cckd_stack.specs.Layers.{Stack as Layered};
+ghost use Rattle.cckd_top.specs.Unhindered.{AreLow, IsUnhindered};
+ghost use Rattle.cckd_top.specs.World.{TellsFiles};
+
 use crate::run_plain;
 use cckd_memory::{Bytes, FileIn, MemoryStage};
 use std::alloc::Global;
@@ -82,7 +90,10 @@ fn staged(
     files: &[(&str, &[u8])],
     script: &[u8],
     failing: &[u64],
-) -> Result<MemoryStage, Fail> {
+) -> Result<MemoryStage, Fail>
+    ensures tells { IfOk result (λ stage. TellsFiles (seen_of stage)) }
+    ensures faults { IfOk result (λ stage. (seen_of stage).faults ≡ no_faults) }
+{
     let mut given = Vec::new(alloc);
     for (name, bytes) in files {
         given.push(named(alloc, name, bytes)?)?;
@@ -326,5 +337,27 @@ fn each_call_fails_in_turn(rt: HostRuntime) -> Result<(), Fail> {
         }
     }
     assert!(rt; broken >= 2);
+    Ok(())
+}
+
+/// Runs over a stage of which no call failed, and answers what is left, and whether the status is 0 or 1. Then all holds that the
+/// law on runs that are served asks of a run.
+fn run_free(stage: MemoryStage, alloc: Global, words: &[String]) -> (MemoryStage, bool)
+    requires tells { TellsFiles (seen_of stage) }
+    requires faults { (seen_of stage).faults ≡ no_faults }
+    ensures low { AreLow (seen_of stage).faults }
+    ensures free { result.1 ≡ true → (g : Shape) × (s0 : Layered) × IsUnhindered (map string_bytes words.now) g s0 (seen_of stage) (seen_of result.0) }
+{
+    let (left, status) = run_plain(stage, alloc, words);
+    (left, status.code < 2)
+}
+
+#[test]
+fn nothing_hinders_a_run(rt: HostRuntime) -> Result<(), Fail> {
+    let alloc = rt.alloc();
+    let raw = small(alloc, 1056, &[])?;
+    let stage = staged(alloc, &[("v", &raw)], SCRIPT.as_bytes(), &[])?;
+    let (_, is_free) = run_free(stage, alloc, &strings(alloc, &["cckdrun", "v"])?);
+    assert!(rt; is_free);
     Ok(())
 }
