@@ -1,4 +1,4 @@
 mod BackLemmas
 mod FaultLemmas
-mod FreshLemmas
+pub mod FreshLemmas
 mod PartLemmas

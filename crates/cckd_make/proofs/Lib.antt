@@ -1,0 +1,4 @@
+mod AbsentLemmas
+mod ImageLemmas
+mod LayLemmas
+mod SoundLemmas
