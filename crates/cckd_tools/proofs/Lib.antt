@@ -1,0 +1,3 @@
+mod InitLemmas
+mod LabelLemmas
+mod ZeroLemmas
