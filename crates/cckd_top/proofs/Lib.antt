@@ -12,3 +12,4 @@ pub mod OwnLemmas
 pub mod QuietLemmas
 pub mod ServedLemmas
 pub mod OnlyLemmas
+pub mod CleanLemmas

@@ -8,3 +8,4 @@ pub mod Opening
 pub mod Ended
 pub mod Explained
 pub mod Unhindered
+pub mod Clean

@@ -3,6 +3,9 @@ ghost use Rattle.std.specs.Prelude.{ℕ, ◌≡◌, ◌<◌, List};
 ghost use Rattle.cckd_base.specs.declared.geometry.Geometry.{Geometry as Shape};
 ghost use Rattle.cckd_base.specs.declared.open_fault.OpenFault.TheVariants.{Memory};
 ghost use Rattle.cckd_shelf.specs.Events.{Event, file_now};
+ghost use Rattle.cckd_shelf.specs.Outcomes.{AtEach, EachStop};
+ghost use Rattle.cckd_shelf.specs.World.{World};
+ghost use Rattle.cckd_engine.specs.Lines.{Line};
 ghost use Rattle.cckd_shelf.specs.Seen.{Seen};
 ghost use Rattle.cckd_stack.specs.Called.{AreSnug};
 ghost use Rattle.cckd_stack.specs.History.{History as Calls, stack_after};
@@ -12,9 +15,10 @@ ghost use Rattle.cckd_stack.specs.Opened.{Opens};
 ghost use Rattle.cckd_stack.specs.Stops.{Survives};
 ghost use Rattle.cckd_console.specs.Served.{Served};
 ghost use Rattle.cckd_top.specs.declared.halt.Halt.TheVariants.{Files};
-ghost use Rattle.cckd_top.specs.Disk.{EndsHardened};
+ghost use Rattle.cckd_top.specs.Clean.{AreClean};
+ghost use Rattle.cckd_top.specs.Disk.{EndsHardened, KeepsDisk};
 ghost use Rattle.cckd_top.specs.Explained.{IsExplained};
-ghost use Rattle.cckd_top.specs.Names.{files_of};
+ghost use Rattle.cckd_top.specs.Names.{files_of, after_binds};
 ghost use Rattle.cckd_top.specs.Run.{halted, served, closed, history_of};
 ghost use Rattle.cckd_top.specs.Unhindered.{AreLow, IsUnhindered, ServesAll};
 ghost use Rattle.cckd_top.specs.World.{TellsFiles, NothingIsOpen};
@@ -39,4 +43,12 @@ pub fn runs_are_served()
 pub fn hardened_files_are_known()
     ensures { (g : Shape) (s0 : Layered) (h : Calls) (events : List Event) → EndsHardened h → EachOpens g (Survives g s0 h) events
         → Opens g (file_now events) (stack_after g s0 h) }
+{}
+
+/// In files that open a check of the lowest level finds nothing amiss. So where a run keeps its disk, at each operation since the
+/// slots have their files it finds nothing amiss in whatever a stop leaves, and nothing is to be repaired.
+pub fn open_files_are_clean()
+    ensures opened { (g : Shape) (files : ℕ → List ℕ) (s : Layered) → Opens g files s → AreClean files }
+    ensures stopped { (name : List ℕ) (g : Shape) (s0 : Layered) (lines : List Line) (old new : World) → KeepsDisk name g s0 lines old new
+        → AtEach (after_binds name 9 old).events new.events (EachStop AreClean) }
 {}

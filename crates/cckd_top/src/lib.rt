@@ -13,6 +13,6 @@ mod text;
 mod words;
 
 pub use halt::Halt;
-pub use laws::{hardened_files_are_known, runs_are_served};
+pub use laws::{hardened_files_are_known, open_files_are_clean, runs_are_served};
 pub use plain::run_plain;
 pub use status::Status;
