@@ -8,8 +8,6 @@ mod heading;
 mod looking;
 mod reading;
 mod report;
-#[cfg(test)]
-mod tests;
 mod tracking;
 
 pub use cckd_base::{Damage, HeaderFault, Layout, Misfit, TrackFault};

@@ -47,7 +47,6 @@ pub mod StoredLemmas
 pub mod SurveyedLemmas
 pub mod SwapLemmas
 pub mod ThenLemmas
-pub mod TogetherLemmas
 pub mod TotalsLemmas
 pub mod WritesLemmas
 pub mod ClippedLemmas

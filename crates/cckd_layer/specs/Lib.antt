@@ -15,5 +15,4 @@ pub mod Writes
 pub mod Loose
 pub mod Preparing
 pub mod Storing
-pub mod Callers
 pub mod Calm

@@ -2,15 +2,11 @@
 #![tactic(auto)]
 
 mod agreeing;
-#[cfg(test)]
-mod callers;
 mod chaining;
 mod claiming;
 mod closing;
 mod committing;
 mod completing;
-#[cfg(test)]
-mod completing_tests;
 mod counting;
 mod hardening;
 mod held;
@@ -25,8 +21,6 @@ mod preparing;
 mod reading;
 mod settling;
 mod staging;
-#[cfg(test)]
-mod tests;
 mod writing;
 
 pub use agreeing::layers_agree;

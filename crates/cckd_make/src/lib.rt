@@ -5,8 +5,6 @@ mod fault;
 mod laws;
 mod laying;
 mod making;
-#[cfg(test)]
-mod tests;
 
 pub use fault::MakeFault;
 pub use laws::new_images_are_new;

@@ -14,8 +14,6 @@ mod pairs;
 mod parts;
 mod places;
 mod sending;
-#[cfg(test)]
-mod tests;
 
 pub use bytes::{Bytes, FileIn, Memory};
 pub use counts::Counts;

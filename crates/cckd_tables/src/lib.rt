@@ -16,11 +16,7 @@ mod staged;
 mod stages;
 mod surveyed;
 mod table;
-#[cfg(test)]
-mod table_tests;
 mod tables;
-#[cfg(test)]
-mod tests;
 mod words;
 
 pub use cckd_base::{Extent, Layout, Misfit, Owner, ScanFault};

@@ -6,8 +6,6 @@ mod label;
 mod labelled;
 mod making;
 mod presence;
-#[cfg(test)]
-mod tests;
 
 pub use fault::InitFault;
 pub use making::init;

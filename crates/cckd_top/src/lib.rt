@@ -7,8 +7,6 @@ mod names;
 mod plain;
 mod run;
 mod status;
-#[cfg(test)]
-mod tests;
 mod text;
 mod words;
 
