@@ -88,6 +88,8 @@ def files_of(text, known=None, script=b""):
                 last = Entry("file")
             case ["file", name, "from", other]:
                 last = Entry("file", origin(other, known))
+            case ["base", name, device, *serial] if device in model.DEVICES and len(serial) <= 1:
+                last = Entry("file", model.new_base(device, *serial))
             case ["disk", name, *options]:
                 found = disk_left(name, options, known, script)
                 known |= found

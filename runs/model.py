@@ -1,5 +1,5 @@
 #!/usr/bin/env python3
-"""What `cckdrun` has to answer and to leave, by the rules of docs/FORMAT.md, docs/SPACE.md and docs/COMMANDS.md.
+"""What `cckdrun` and `dasdinit` have to answer and to leave, by the rules of docs/FORMAT.md, docs/SPACE.md and docs/COMMANDS.md.
 
 The rows take the files that a script leaves from here, so that no row is copied from the program. It knows nothing of stops, faults of
 the disk and scripts past their limit, and keeps everything in the plainest form: free space is what nothing holds.
@@ -106,6 +106,13 @@ class File:
             with open(self.path, "r+b") as stream:
                 stream.seek(position)
                 stream.write(more)
+
+    def become(self, content):
+        """Makes these all that the file holds."""
+        self.content = bytearray(content)
+        if self.path is not None:
+            with open(self.path, "wb") as stream:
+                stream.write(content)
 
     def is_there(self):
         start = self.content[:512]
@@ -631,7 +638,103 @@ def left(contents, name, script, limit=FORMAT_LIMIT, until=None):
     return {each: bytes(file.content) for each, file in files.items() if each in contents}
 
 
+# ---- the making of a base
+
+# The devices that can be made: the type's byte, cylinders, heads, and the most data that a track's one record has.
+DEVICES = {
+    "2311": (0x11, 200, 10, 3625),
+    "2314": (0x14, 200, 20, 7294),
+    "3330": (0x30, 404, 19, 13030),
+    "3350": (0x50, 555, 30, 19069),
+    "3380": (0x80, 885, 15, 47476),
+    "3380-E": (0x80, 1770, 15, 47476),
+    "3380-K": (0x80, 2655, 15, 47476),
+    "3390-1": (0x90, 1113, 15, 56664),
+    "3390-2": (0x90, 2226, 15, 56664),
+    "3390-3": (0x90, 3339, 15, 56664),
+    "3390-9": (0x90, 10017, 15, 56664),
+}
+# Python's own table of EBCDIC.
+EBCDIC = "cp037"
+
+
+def shape_of(device):
+    kind, cylinders, heads, most = DEVICES[device]
+    return Shape(kind, heads, cylinders, -(-(37 + most) // 512) * 512)
+
+
+def raw_base(shape):
+    """A closed base in which no group has a table."""
+    area = shape.area()
+    device = struct.pack("<8sIIB", b"CKD_C370", shape.heads, shape.track_size, shape.device)
+    counts = struct.pack("<9I", shape.groups(), GROUP, area, area, 0, 0, 0, 0, 0)
+    compressed = bytes([0, 3, 1, 0]) + counts + struct.pack("<IBBh", shape.cylinders, 0, 0, -1)
+    return (device.ljust(512, b"\0") + compressed).ljust(area, b"\0")
+
+
+def keyed(number, key, data):
+    """A record of track 0 whose key is text."""
+    return struct.pack(">HHBBH", 0, 0, number, len(key), len(data)) + key.encode(EBCDIC) + data
+
+
+def label_track(serial):
+    """Track 0 of a labelled volume: nothing that could be started, and the label."""
+    label = ("VOL1" + serial.ljust(6) + " ").encode(EBCDIC) + bytes(5) + (" " * 64).encode(EBCDIC)
+    start = home_of(0, 0) + count_of(0, 0, 0, 8) + bytes(8)
+    return start + keyed(1, "IPL1", bytes(24)) + keyed(2, "IPL2", bytes(144)) + keyed(3, "VOL1", label) + END_MARK
+
+
+def new_base(device, serial=None):
+    """The file of a new base. A label is written to a raw base as any track is, and the file is closed."""
+    file = File(bytearray(raw_base(shape_of(device))))
+    if serial is not None:
+        disk = Disk([file])
+        disk.write(0, 0, label_track(serial))
+        disk.close()
+    return bytes(file.content)
+
+
+def made(file, device, serial):
+    """Makes a base in a file, and answers the line and the status."""
+    if file.is_there():
+        return f"refused: not empty, {len(file.content)}", 3
+    file.become(new_base(device, serial))
+    shape = shape_of(device)
+    numbers = f"{shape.cylinders} cylinders, {shape.heads} heads, {shape.groups()} groups, {len(file.content)} bytes"
+    return f"made {device}: {numbers}", 0
+
+
 # ---- the words
+
+
+def is_name(word):
+    return 1 <= len(os.fsencode(word)) <= 255 and not word.startswith("-")
+
+
+def is_serial(word):
+    return re.fullmatch("[A-Z0-9@#$]{1,6}", word) is not None
+
+
+def base_read(words):
+    """The file, the device and the serial, if there is one, of a new base, or the number of the first wrong or missing word."""
+    options = set()
+    for word in words[1:3]:
+        if word in ("-0", "-r") and word not in options:
+            options.add(word)
+        else:
+            break
+    at, is_raw = 1 + len(options), "-r" in options
+    if "-0" not in options:
+        return at
+    # What may stand at each place behind the options.
+    tests = [is_name, DEVICES.__contains__] + ([] if is_raw else [is_serial])
+    rest = words[at:]
+    for place, test in enumerate(tests):
+        if place >= len(rest) or not test(rest[place]):
+            return at + place
+    if len(rest) > len(tests):
+        return at + len(tests)
+    return rest if not is_raw else rest + [None]
 
 
 def limit_of(word):
@@ -651,20 +754,32 @@ def words_read(words):
             limit, at = limit_of(words[2]), 3
         except (IndexError, ValueError):
             return 2
-    is_name = at < len(words) and 1 <= len(os.fsencode(words[at])) <= 255 and not words[at].startswith("-")
-    if not is_name:
+    if at >= len(words) or not is_name(words[at]):
         return at
     return at + 1 if len(words) > at + 1 else (limit, words[at])
 
 
 def opened(path):
     if not os.path.exists(path):
-        return File(bytearray())
+        return File(bytearray(), path)
     with open(path, "rb") as stream:
         return File(bytearray(stream.read()), path)
 
 
+def make_base(words):
+    found = base_read(words)
+    if isinstance(found, int):
+        print(f"bad words at {found}")
+        return 2
+    name, device, serial = found
+    line, status = made(opened(name), device, serial)
+    print(line)
+    return status
+
+
 def main(words):
+    if words[:1] == ["dasdinit"]:
+        return make_base(words)
     found = words_read(words)
     if isinstance(found, int):
         print(f"bad words at {found}")

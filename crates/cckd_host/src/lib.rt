@@ -2,9 +2,10 @@
 #![tactic(auto)]
 
 ghost use Rattle.cckd_host.specs.Words.{IsRun};
+ghost use Rattle.cckd_host.specs.Commands.{RunsCommand};
 ghost use Rattle.cckd_shelf.specs.Seen.{seen};
-ghost use Rattle.cckd_top.specs.Explained.{IsExplained};
 
+mod commands;
 mod source;
 #[cfg(test)]
 mod tests;
@@ -12,7 +13,7 @@ mod words;
 
 use cckd_files::HostStage;
 use cckd_shelf::{Stage, put_all};
-use cckd_top::run_plain;
+pub use commands::run_command;
 pub use source::WordSource;
 use std::alloc::Global;
 use std::process::ExitCode;
@@ -24,15 +25,12 @@ const NO_MEMORY: u8 = 8;
 /// Runs on this stage with the words of a source, and answers the status. Where there was no memory for the words, it says so.
 pub fn run_from<T: Stage, W: WordSource>(stage: T, alloc: Global, source: &W) -> (T, u8)
     ensures { IsRun W.tells (W.words source.now)
-        (λ words. IsExplained words (seen T.Shows stage) (seen T.Shows result.0) result.1)
+        (λ words. RunsCommand words (seen T.Shows stage) (seen T.Shows result.0) result.1)
         (seen T.Shows stage) (seen T.Shows result.0) result.1 }
 {
     let mut stage = stage;
     match words_of(source, alloc) {
-        Ok(words) => {
-            let (stage, status) = run_plain(stage, alloc, &words);
-            (stage, status.code)
-        }
+        Ok(words) => run_command(stage, alloc, &words),
         Err(_) => {
             // Where that can't be put either, the status says it.
             match put_all(&mut stage, b"no memory\n") {

@@ -72,5 +72,9 @@ fn the_status_is_handed_on(rt: HostRuntime) -> Result<(), Fail> {
     let alloc = rt.alloc();
     ends(&rt, alloc, &[], "bad words at 0\n", 2)?;
     let absent: [&[u8]; 2] = [b"cckdrun", b"v"];
-    ends(&rt, alloc, &absent, "refused: slot 0 not a CCKD image\n", 3)
+    ends(&rt, alloc, &absent, "refused: slot 0 not a CCKD image\n", 3)?;
+    let raw: [&[u8]; 5] = [b"dasdinit", b"-0", b"-r", b"v", b"2311"];
+    let made = "made 2311: 200 cylinders, 10 heads, 8 groups, 1056 bytes\n";
+    ends(&rt, alloc, &raw, made, 0)?;
+    ends(&rt, alloc, &raw[..4], "bad words at 4\n", 2)
 }

@@ -6,7 +6,7 @@ use Rattle.cckd_host.proofs.run_from.Goals as goal
 pub returns-in-Ok : goal.returns-in-Ok
 returns-in-Ok g c =
     with_words (map string_bytes c.deref.result.now) (λ told. ap (map string_bytes) c.deref.ensures.value ∙ c.in-Ok.ensures told)
-    c.run_plain-stage.ensures
+    c.run_command.ensures
 
 pub returns-in-Ok-put_all : goal.returns-in-Ok-put_all
 returns-in-Ok-put_all g c =

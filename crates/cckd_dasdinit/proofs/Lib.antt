@@ -1,0 +1,3 @@
+pub mod SerialLemmas
+pub mod ExplainedLemmas
+pub mod TextLemmas

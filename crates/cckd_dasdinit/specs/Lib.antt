@@ -1,0 +1,4 @@
+pub mod Serial
+pub mod Words
+pub mod Text
+pub mod Explained
