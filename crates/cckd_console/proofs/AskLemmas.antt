@@ -17,7 +17,7 @@ use Rattle.cckd_script.specs.Grammar.{Kind, word, number, bytes, Value, nothing,
 use Rattle.cckd_script.specs.Lines.{tokens, line_limit}
 use Rattle.cckd_script.specs.Items.{asked, items_of, line_items}
 use Rattle.cckd_script.specs.Filled.{filled_track}
-use Rattle.cckd_script.specs.Parse.{Request, Form, read_form, write_form, fill_form, check_form, forms, form_named, kinds_behind, asked_by, asked_in, parsed_tokens, parsed, line_in, given_in}
+use Rattle.cckd_script.specs.Parse.{Request, Form, read_form, write_form, fill_form, check_form, forms, form_named, asked_by, asked_in, parsed_tokens, parsed, line_in, given_in}
 use Rattle.cckd_script.specs.Parse as request
 use Rattle.cckd_base.specs.declared.geometry.Addr.{Addr}
 use Rattle.cckd_engine.specs.Calls.{HasLevel, is_served}

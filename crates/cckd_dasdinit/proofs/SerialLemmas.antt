@@ -1,7 +1,7 @@
 -- Characters of a serial, one after another.
 use Rattle.std.proofs.Common.{◌≡◌, ℕ, zero, suc, ◌+◌, ◌<◌, ◌≤◌, ◌==◌, Bool, true, false, ◌&&◌, List, [], ◌∷◌, ◌++◌, length, take, map, get_or, replicate, refl, sym, ◌∙◌, ap, subst, arith}
 use Rattle.std.proofs.lemmas.Bool.{false≢true, le-leb}
-use Rattle.std.proofs.lemmas.List.{take_more, map-append, take_all, length-map, drop-replicate}
+use Rattle.std.proofs.lemmas.List.{take_more, map-append, drop-replicate}
 use Rattle.cckd_base.specs.Put.{IsPut}
 use Rattle.cckd_base.proofs.PutLemmas.{none_put, puts_join, put_as, put_in_front}
 use Rattle.cckd_tools.specs.Label.{blank}
@@ -55,14 +55,6 @@ one_bad (c ∷ word) (suc count) d within bad =
     and_false : (b : Bool) → (b && false) ≡ false
     and_false true = refl
     and_false false = refl
-
--- all of them were put
-pub all_put : (word : List ℕ) (count end : ℕ) (old new : List ℕ) → count ≡ length word → PutSoFar word count end old new
-    → (are_characters word ≡ true) × IsPut 0 (length word) (map in_ebcdic word) old new
-all_put word count end old new is so_far =
-    let whole : take count word ≡ word = ap (λ (n : ℕ). take n word) is ∙ take_all (length word) word (omega arith) in
-    let put = put_as 0 end _ _ old new (ap (map in_ebcdic) whole) so_far.put in
-    (subst (λ (cs : List ℕ). are_characters cs ≡ true) whole so_far.good, subst (λ (n : ℕ). IsPut 0 n (map in_ebcdic word) old new) (omega (arith, put.ends, length-map word in_ebcdic)) put)
 
 some_of : (word : List ℕ) → false ≡ (length word == 0) → 1 ≤ length word
 some_of [] is = absurd (false≢true is)

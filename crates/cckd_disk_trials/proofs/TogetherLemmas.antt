@@ -56,8 +56,13 @@ pub record HasWritten (null : NullBytes) (more : Later) (s now : LayerState) (ol
   pub agrees : Tells new → IsSure old.world → Agrees now new.world
   pub lies : (d : Tracks) (later : List Later) → Tells old → Agrees s old.world → LiesWithin (track_count s.tables.layout.geo) d (more ∷ later) (map_of null s old)
       → LiesWithin (track_count s.tables.layout.geo) d (more ∷ later) (map_of null now new)
+  pub rest : Tells old → Agrees s old.world → (u : ℕ) → u < track_count s.tables.layout.geo → (more.track ≡ u → ⊥) → map_of null now new u ≡ map_of null s old u
   pub stopped : StopsWritten null more s old new
   pub others : OnlyIn s.slot old new
+
+-- the layer has the bytes of the last write
+abbrev pub HasLast : NullBytes → Later → LayerState → LayerState → Seen → Seen → Type 0
+HasLast null more s now old new = Tells old → Agrees s old.world → map_of null now new more.track ≡ Some more.bytes
 
 -- the layer agrees with its file, as far as no operation failed half way
 pub written_agrees : (null : NullBytes) (more : Later) (s now : LayerState) (old new : Seen) → (Tells new → Tells old) → HasWritten null more s now old new → AgreesIn now new
@@ -69,6 +74,7 @@ none_written null more s a law agrees = record {
   same = record { slot = refl; layout = refl; limit = refl };
   agrees = agrees;
   lies = λ d later told ag within. within;
+  rest = λ told ag u low other. refl;
   stopped = λ d later told ag within each.
       at_once (EachOutcome s.slot (Keeps null s.tables.layout d (more ∷ later))) a.world.events (λ file outcome. law null s.tables.layout d later more file (each file outcome));
   others = only_stays s.slot a a (λ told. refl);
@@ -96,8 +102,22 @@ written_again null more s m n a b c tells back h same stores stopped others = re
   lies = λ d later told agrees within.
       stored_within (track_count s.tables.layout.geo) d (map_of null m b) (map_of null n c) more later (h.lies d later told agrees within)
       (subst (λ (l : Layout). Stores (track_count l.geo) more.track (Some more.bytes) (map_of null m b) (map_of null n c)) h.same.layout (stores (tells told) (h.agrees (tells told) agrees.stands.sure)).stores);
+  rest = λ told agrees u low other.
+      (stores (tells told) (h.agrees (tells told) agrees.stands.sure)).stores.others u (subst (λ (l : Layout). u < track_count l.geo) (sym h.same.layout) low) other
+      ∙ h.rest told agrees u low other;
   stopped = act_behind null more s m a b c tells h stopped;
   others = others_behind null more s m a b c tells h others;
+}
+
+-- the layer has the last write's bytes then
+pub last_again : (null : NullBytes) (more : Later) (s m n : LayerState) (a b c : Seen) → (Tells a → Tells b) → HasWritten null more s m a b → StoresTrack null m n more.track more.bytes b c → HasLast null more s n a c
+last_again null more s m n a b c tells h stores told agrees = (stores (tells told) (h.agrees (tells told) agrees.stands.sure)).stores.here
+
+-- and of the others those that it had
+pub stored_last : (null : NullBytes) (more : Later) (s m : LayerState) (a b : Seen) → (Tells a → Tells b) → HasWritten null more s m a b → HasLast null more s m a b → StoresTrack null s m more.track more.bytes a b
+stored_last null more s m a b tells h last told agrees = record {
+  agrees = h.agrees (tells told) agrees.stands.sure;
+  stores = record { here = last told agrees; others = h.rest told agrees };
 }
 
 -- the first

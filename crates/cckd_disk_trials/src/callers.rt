@@ -72,6 +72,7 @@ fn write_times<U: Unit, T: Stage>(
     requires track { t.0 < track_count layer.old.tables.layout.geo }
     requires long { length bytes.now ≤ 65535 }
     requires agrees { AgreesIn layer.old (seen T.Shows stage.old) }
+    ensures holds { 0 < n → OnOk result (HoldsWritten U.null_bytes (written U.value t.0 bytes.now) layer.old (seen T.Shows stage.old) (seen T.Shows stage.new)) }
     ensures stopped { StopsWritten U.null_bytes (written U.value t.0 bytes.now) layer.old (seen T.Shows stage.old) (seen T.Shows stage.new) }
     ensures others { OnlyIn layer.old.slot (seen T.Shows stage.old) (seen T.Shows stage.new) }
 {

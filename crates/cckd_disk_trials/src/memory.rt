@@ -137,6 +137,20 @@ fn a_failed_write_is_torn(rt: HostRuntime) -> Result<(), Fail> {
 }
 
 #[test]
+fn a_failed_cut_is_half_made(rt: HostRuntime) -> Result<(), Fail> {
+    let alloc = rt.alloc();
+    let mut stage = stage_of(alloc, b"abc", b"", &[2])?;
+    stage.bind(slot(0)?, "v")?;
+    assert_eq!(rt; stage.cut(slot(0)?, 1), Err(Failed));
+    assert!(rt; matches!(stage.ops(), [Op::HalfCut { slot: 0, len: 1 }]));
+    for (choice, left) in [(0u8, b"abc".as_slice()), (1, b"a".as_slice())] {
+        let image = image_of(alloc, b"abc", stage.ops(), slot(0)?, &[choice])?;
+        assert_eq!(rt; image.as_slice(), left, "choice {choice}");
+    }
+    Ok(())
+}
+
+#[test]
 fn a_name_moves_to_another_slot(rt: HostRuntime) -> Result<(), Fail> {
     let mut stage = stage_of(rt.alloc(), b"abc", b"", &[])?;
     stage.bind(slot(0)?, "v")?;

@@ -266,7 +266,7 @@ room_looks r said old new before after are some caches tied soft calm =
     let slot : h.next.slot ≡ h.was.slot = ap (λ (s : LayerState). s.slot) h.same in
     let here : (room : Room) → HasRoom old room → IsInRoom room h.next = λ room has. looks_in room h.was h.next h.same (ends_at (IsInRoom room) old.layers h.lower h.was h.old_is has) in
     record {
-      next = λ room has fine.
+      again = λ room has fine.
           let k = here room has in
           record {
             lower = h.upper;
@@ -343,7 +343,7 @@ room_hardens c given done result old new before after are only outside h hard ti
     let here : (room : Room) → HasRoom old room → reply_breaks c said ≡ false → IsInRoom (room_after_call g room r said) h.next = λ room has fine.
     stays_in room (room_after_call g room r said) h.was h.next h.same h.stays refl refl (λ x one. kept_group x (group_tried g r said) room.groups one) (empty room fine) (was room has) in
     record {
-      next = λ room has fine. record { lower = h.upper; last = h.next; layers_are = h.new_is; holds = here room has fine };
+      again = λ room has fine. record { lower = h.upper; last = h.next; layers_are = h.new_is; holds = here room has fine };
       kept = λ room has. record {
         full = hard_calm (Unit {0}) c done result only outside _;
         within = λ fine. last_within (room_after_call g room r said) new.layers h.upper h.next after.world (top_slot (stack_in old before.world.events)) h.new_is (at ∙ sym h.same.slot) (tied fine) (here room has fine);
@@ -356,8 +356,8 @@ room_hardens c given done result old new before after are only outside h hard ti
 
 -- a call that breaks
 pub room_broke : (r : Request) (why : StackFault) (old new : StackState) (before after : Seen) → is_broken_by {A = Unit {0}} (Err why) ≡ true → KeepsRooms r (reply.Refused (refusal_by why)) old new before after
-room_broke r (stack_fault.Layer fault.WriteFault) old new before after breaks = record { next = λ room has fine. absurd (false≢true (sym fine)); kept = λ room has. record { full = tt; within = λ fine. absurd (false≢true (sym fine)) } }
-room_broke r (stack_fault.Layer fault.SyncFault) old new before after breaks = record { next = λ room has fine. absurd (false≢true (sym fine)); kept = λ room has. record { full = tt; within = λ fine. absurd (false≢true (sym fine)) } }
+room_broke r (stack_fault.Layer fault.WriteFault) old new before after breaks = record { again = λ room has fine. absurd (false≢true (sym fine)); kept = λ room has. record { full = tt; within = λ fine. absurd (false≢true (sym fine)) } }
+room_broke r (stack_fault.Layer fault.SyncFault) old new before after breaks = record { again = λ room has fine. absurd (false≢true (sym fine)); kept = λ room has. record { full = tt; within = λ fine. absurd (false≢true (sym fine)) } }
 room_broke r (stack_fault.Layer (fault.Full full)) old new before after breaks = absurd (false≢true breaks)
 room_broke r (stack_fault.Layer (fault.Track found)) old new before after breaks = absurd (false≢true breaks)
 room_broke r (stack_fault.Layer fault.ReadFault) old new before after breaks = absurd (false≢true breaks)
@@ -402,7 +402,7 @@ module _ (at : Addr) (t : ℕ) (given : List ℕ) (old new : StackState) (before
         (changes_at (AddsInRoom (t / 256)) old.layers new.layers last.lower last.lower last.was last.next last.old_is last.new_is adds) refl refl
         (λ x one. kept_group x (group_tried g r said) room.groups one) (own room) soft (was_in room has) in
         record {
-          next = λ room has fine. record { lower = last.lower; last = last.next; layers_are = last.new_is; holds = here room has };
+          again = λ room has fine. record { lower = last.lower; last = last.next; layers_are = last.new_is; holds = here room has };
           kept = λ room has. record { full = calm _; within = λ fine. within (room_after_call g room r said) tied (here room has) };
         }
 
@@ -419,7 +419,7 @@ module _ (at : Addr) (t : ℕ) (given : List ℕ) (old new : StackState) (before
         let same : (room : Room) → HasRoom old room → IsInRoom room last.next = λ room has.
         stays_in room room last.was last.next last.changes kept refl refl (λ x one. one) (λ quiet. kept.empty ((was_in room has).empty quiet)) (was_in room has) in
         record {
-          next = λ room has fine. record { lower = last.lower; last = last.next; layers_are = last.new_is; holds = here room has };
+          again = λ room has fine. record { lower = last.lower; last = last.next; layers_are = last.new_is; holds = here room has };
           kept = λ room has. record {
             full = full_cause room (same room has) why lacks;
             within = λ fine. within room tied (same room has);

@@ -17,10 +17,9 @@ use Rattle.cckd_stack.specs.Answers.{Request, Answer}
 use Rattle.cckd_stack.specs.History.{Entry, History}
 use Rattle.cckd_stack.specs.Stops.{Survives, SurvivesWithin}
 use Rattle.cckd_stack.specs.Moments.{EachOpens}
-use Rattle.cckd_stack.proofs.HistoryLemmas.{survives_within}
 use Rattle.cckd_engine.specs.declared.tally.Tally.{Tally}
 use Rattle.cckd_engine.specs.Engine.{Stands, TellsStops, KeepsHistory, entry_of, KeepsToRoom}
-use Rattle.cckd_engine.specs.Lines.{Line, of_call, of_text, StopAfter, history_onto, HasFront, feeds, lines_since, LinesAt, KeepsLine, GrowsFrom, AreFilesThen}
+use Rattle.cckd_engine.specs.Lines.{of_call, of_text, StopAfter, HasFront, feeds, lines_since, LinesAt, KeepsLine, GrowsFrom, AreFilesThen}
 
 -- ---- line feeds
 
@@ -233,21 +232,3 @@ notes g s0 h text one old new left put = record {
 }
 
 -- ---- one line behind others
-
-pub stop_more : (g : Geometry) (s0 : Stack) (h : History) (lines : List Line) (x : Line) (n : ℕ) (s : Stack) → n ≤ length lines
-    → StopAfter g s0 h lines n s → StopAfter g s0 h (lines ++ x ∷ []) n s
-stop_more g s0 h [] (of_call e) zero s few left = survives_within g s0 h e.request s left
-stop_more g s0 h [] (of_text text) zero s few left = left
-stop_more g s0 h [] x (suc n) s few left = absurd (omega (arith, few))
-stop_more g s0 h (of_call e ∷ lines) x zero s few left = left
-stop_more g s0 h (of_call e ∷ lines) x (suc n) s few left = stop_more g s0 (e ∷ h) lines x n s (omega (arith, few)) left
-stop_more g s0 h (of_text text ∷ lines) x zero s few left = left
-stop_more g s0 h (of_text text ∷ lines) x (suc n) s few left = stop_more g s0 h lines x n s (omega (arith, few)) left
-
-pub stop_behind : (g : Geometry) (s0 : Stack) (h : History) (lines : List Line) (x : Line) (m n : ℕ) (s : Stack) → n ≡ length lines + m
-    → StopAfter g s0 (history_onto lines h) (x ∷ []) m s → StopAfter g s0 h (lines ++ x ∷ []) n s
-stop_behind g s0 h [] x m n s is left = subst (λ (k : ℕ). StopAfter g s0 h (x ∷ []) k s) (omega (arith, is)) left
-stop_behind g s0 h (of_call e ∷ lines) x m zero s is left = absurd (omega (arith, is))
-stop_behind g s0 h (of_call e ∷ lines) x m (suc n) s is left = stop_behind g s0 (e ∷ h) lines x m n s (omega (arith, is)) left
-stop_behind g s0 h (of_text text ∷ lines) x m zero s is left = absurd (omega (arith, is))
-stop_behind g s0 h (of_text text ∷ lines) x m (suc n) s is left = stop_behind g s0 h lines x m n s (omega (arith, is)) left

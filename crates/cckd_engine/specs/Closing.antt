@@ -29,9 +29,9 @@ pub record TellsChanges (marks : List Event → List Event → Type 0) (breaks :
 
 -- so it is of a call of a stack that agreed with its files
 abbrev pub ClosesFiles : Request → Answer → StackState → StackState → Seen → Seen → Type 0
-ClosesFiles r said old new before after =
-    (base : List Event) → Tells before → AgreesAfter old before.world.events → MarksSince old base before.world.events
-    → TellsChanges (MarksSince new) (reply_breaks r.asked said.reply) said.reply base after.world.events
+ClosesFiles r said s next old new =
+    (base : List Event) → Tells old → AgreesAfter s old.world.events → MarksSince s base old.world.events
+    → TellsChanges (MarksSince next) (reply_breaks r.asked said.reply) said.reply base new.world.events
 
 -- Until a call breaks it, a disk's marks say what was done to the files since these earlier events; and behind a last call that
 -- was answered `closed`, each was left or is closed.

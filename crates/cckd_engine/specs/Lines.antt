@@ -7,16 +7,11 @@ use Rattle.cckd_shelf.specs.declared.fault.Kind.TheVariants.{Puts}
 use Rattle.cckd_shelf.specs.Faults.{Raises}
 use Rattle.cckd_shelf.specs.Events.{Event, output_of, file_now}
 use Rattle.cckd_shelf.specs.Outcomes.{AtEach}
-use Rattle.cckd_script.specs.Text.{reply_line}
 use Rattle.cckd_stack.specs.Layers.{Stack}
 use Rattle.cckd_stack.specs.History.{Entry, History}
 use Rattle.cckd_stack.specs.Stops.{Survives, SurvivesWithin}
 use Rattle.cckd_stack.specs.Moments.{EachOpens}
 use Rattle.cckd_engine.specs.Calls.{CountsReply}
-
--- the line of an entry
-abbrev pub entry_line : Entry → List ℕ
-entry_line e = reply_line e.request.asked e.answer.reply e.answer.bytes
 
 -- a line of a run: that of a call with its answer, or one that answers no call
 pub data Line : Type 0 where

@@ -19,31 +19,31 @@ use Rattle.cckd_engine.specs.Closing.{ClosesFiles}
 use Rattle.cckd_engine.specs.Calls.{CountsReply, KeepsRun, writes}
 
 -- What a call makes of the room in the last file: it is kept on, and the call keeps it.
-pub record KeepsRooms (r : Request) (said : Reply) (old new : StackState) (before after : Seen) : Type 0 where
-  pub next : (room : Room) → HasRoom old room → reply_breaks r.asked said ≡ false → HasRoom new (room_after_call old.geometry room r said)
-  pub kept : (room : Room) → HasRoom old room → KeepsRoom old.geometry room (stack_in old before.world.events) r said (file_now after.world.events)
+pub record KeepsRooms (r : Request) (said : Reply) (s next : StackState) (old new : Seen) : Type 0 where
+  pub again : (room : Room) → HasRoom s room → reply_breaks r.asked said ≡ false → HasRoom next (room_after_call s.geometry room r said)
+  pub kept : (room : Room) → HasRoom s room → KeepsRoom s.geometry room (stack_in s old.world.events) r said (file_now new.world.events)
 
 -- A call does what is asked of a disk, where no operation had failed half way: it is answered as the layered disk may answer, and
 -- leaves the stack that the layered disk has after it. Unless it breaks, none failed so, and the stack can make calls again. At each
 -- operation a stop leaves what it may leave. In any case nothing is done to the files of other slots than that of the last layer. Behind
 -- the reply `closed` the files that were changed are closed images.
-pub record Performs (r : Request) (said : Answer) (old new : StackState) (before after : Seen) : Type 0 where
-  pub answers : Tells before → IsSure before.world → MayAnswer old.geometry (stack_in old before.world.events) r said
+pub record Performs (r : Request) (said : Answer) (s next : StackState) (old new : Seen) : Type 0 where
+  pub answers : Tells old → IsSure old.world → MayAnswer s.geometry (stack_in s old.world.events) r said
   pub fits : FitsCall r.asked (length r.given) said.reply
-  pub stack : Tells before → IsSure before.world → reply_breaks r.asked said.reply ≡ false
-      → stack_in new after.world.events ≡ stack_after_call old.geometry (stack_in old before.world.events) r said.reply
-  pub sure : Tells before → IsSure before.world → reply_breaks r.asked said.reply ≡ false → IsSure after.world
-  pub ready : reply_breaks r.asked said.reply ≡ false → CanCall new after
-  pub geometry : new.geometry ≡ old.geometry
-  pub agrees : reply_breaks r.asked said.reply ≡ false → Tells before → AgreesAfter old before.world.events → AgreesAfter new after.world.events
-  pub stops : (was : Hardening) → Tells before → AgreesAfter old before.world.events → was.stack ≡ stack_in old before.world.events
-      → IsHardened old.geometry was before.world.events → KeepsStops old.geometry was r said.reply before.world.events after.world.events
-  pub quiet : AreUnchanged old.layers → writes r.asked ≡ false → AreUnchanged new.layers × Stays before after
-  pub spares : Spares (IsLower old) (IsLower new) before after
-  pub room : Tells before → IsSure before.world → KeepsRooms r said.reply old new before after
-  pub closes : ClosesFiles r said old new before after
-  pub counts : CountsReply said.reply before.faults after.faults
-  pub run : KeepsRun before after
+  pub stack : Tells old → IsSure old.world → reply_breaks r.asked said.reply ≡ false
+      → stack_in next new.world.events ≡ stack_after_call s.geometry (stack_in s old.world.events) r said.reply
+  pub sure : Tells old → IsSure old.world → reply_breaks r.asked said.reply ≡ false → IsSure new.world
+  pub ready : reply_breaks r.asked said.reply ≡ false → CanCall next new
+  pub geometry : next.geometry ≡ s.geometry
+  pub agrees : reply_breaks r.asked said.reply ≡ false → Tells old → AgreesAfter s old.world.events → AgreesAfter next new.world.events
+  pub stops : (was : Hardening) → Tells old → AgreesAfter s old.world.events → was.stack ≡ stack_in s old.world.events
+      → IsHardened s.geometry was old.world.events → KeepsStops s.geometry was r said.reply old.world.events new.world.events
+  pub quiet : AreUnchanged s.layers → writes r.asked ≡ false → AreUnchanged next.layers × Stays old new
+  pub spares : Spares (IsLower s) (IsLower next) old new
+  pub room : Tells old → IsSure old.world → KeepsRooms r said.reply s next old new
+  pub closes : ClosesFiles r said s next old new
+  pub counts : CountsReply said.reply old.faults new.faults
+  pub run : KeepsRun old new
 
 -- what is said to a read of a track, of which so many bytes were found
 abbrev pub said_to_read : Result ℕ StackFault → Reply

@@ -1,16 +1,12 @@
 -- The nodes of a new block.
-use Rattle.std.proofs.Common.{◌≡◌, inl, inr, ℕ, suc, ◌+◌, ◌-◌, ◌*◌, ◌/◌, ◌<◌, List, [], ◌∷◌, ◌++◌, length, get_or, replicate, refl, sym, ap, ◌∙◌, subst, arith}
-use Rattle.std.proofs.lemmas.List.{get_or_append_left, replicate-append-replicate}
-use Rattle.std.proofs.Math.Seq.{get_or-append_seam}
-use denote.RawPtr.{Ptr, block_ptr, null_ptr, InBlock, ◌+ₚ◌}
+use Rattle.std.proofs.Common.{◌≡◌, ℕ, suc, ◌+◌, ◌-◌, ◌*◌, ◌/◌, ◌<◌, List, [], ◌∷◌, ◌++◌, length, get_or, replicate, refl, ap, ◌∙◌, arith}
+use Rattle.std.proofs.lemmas.List.{replicate-append-replicate}
+use denote.RawPtr.{Ptr, block_ptr, null_ptr, ◌+ₚ◌}
 use Rattle.cckd_frames.specs.declared.node.Node.{Node}
 use Rattle.cckd_frames.specs.declared.node.NodePtr.{NodePtr}
-use Rattle.cckd_frames.specs.declared.node.Way.{Way}
-use Rattle.cckd_frames.specs.declared.node.Way.TheVariants.{Older, Newer, After, Before}
 use Rattle.cckd_frames.specs.Items.{place_of}
-use Rattle.cckd_frames.specs.Links.{link_of, fresh}
-use Rattle.cckd_frames.specs.Placed.{node_words, words_of, PointsIn, IsLinked, AreNumbered}
-use Rattle.cckd_frames.proofs.RingLemmas.{same_or_not}
+use Rattle.cckd_frames.specs.Links.{fresh}
+use Rattle.cckd_frames.specs.Placed.{node_words, words_of, AreNumbered}
 
 -- the first item is that of number 0
 pub start_is : (p : Ptr) → place_of 56 p p ≡ 0
@@ -20,30 +16,6 @@ start_is null_ptr = refl
 start_at : (p : Ptr) → p ≡ p +ₚ 0 * 56
 start_at (block_ptr b o) = ap (λ k. block_ptr b k) (let e : o ≡ o + 0 = omega arith in e)
 start_at null_ptr = refl
-
-pub points_to_first : (p : Ptr) (n : ℕ) → 0 < n → PointsIn p n p
-points_to_first p n h = (subst (λ k. p ≡ p +ₚ k * 56) (sym (start_is p)) (start_at p), subst (λ k. k < n) (sym (start_is p)) h)
-
--- one node more
-pub numbered_more : (to : NodePtr) (n : ℕ) (ns : List Node) → length ns ≡ n → AreNumbered to n ns → AreNumbered to (n + 1) (ns ++ fresh to n ∷ [])
-numbered_more to n ns l a k d lt =
-    elim (same_or_not k n) [
-      | inl e ↦ ap (λ i. get_or (ns ++ fresh to n ∷ []) i d) (e ∙ sym l) ∙ (get_or-append_seam ns (fresh to n) [] d ∙ ap (λ i. fresh to i) (sym e))
-      | inr ne ↦ get_or_append_left ns (fresh to n ∷ []) d k (omega arith) ∙ a k d (omega arith)
-    ]
-
-fresh_link : (w : Way) (to : NodePtr) (k : ℕ) → link_of w (fresh to k) ≡ to
-fresh_link Older to k = refl
-fresh_link Newer to k = refl
-fresh_link After to k = refl
-fresh_link Before to k = refl
-
-pub linked_anew : (to : NodePtr) (ns : List Node) → InBlock to.ptr → AreNumbered to (length ns) ns → IsLinked to.ptr ns
-linked_anew to ns inb a = record {
-  block = inb;
-  links = λ w k d lt. subst (λ (q : NodePtr). PointsIn to.ptr (length ns) q.ptr) (sym (ap (λ (x : Node). link_of w x) (a k d lt) ∙ fresh_link w to k)) (points_to_first to.ptr (length ns) (omega arith));
-  numbers = λ k d lt. ap (λ (x : Node). x.number) (a k d lt);
-}
 
 pub words_anew : (to : NodePtr) (ns : List Node) (j : ℕ) → ((k : ℕ) (d : Node) → k < length ns → get_or ns k d ≡ fresh to (j + k)) → words_of to.ptr ns ≡ replicate (9 * length ns) 0
 words_anew to [] j a = refl

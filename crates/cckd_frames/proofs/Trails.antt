@@ -1,7 +1,7 @@
 -- The nodes that words name one after another.
-use Rattle.std.proofs.Common.{◌≡◌, ◌≢◌, inl, inr, ℕ, zero, suc, ◌+◌, ◌-◌, ◌<◌, List, [], ◌∷◌, length, None, Some, slice_get, refl, ap, subst, arith}
+use Rattle.std.proofs.Common.{◌≡◌, ◌≢◌, inl, inr, ℕ, zero, suc, ◌+◌, ◌-◌, ◌<◌, List, [], ◌∷◌, length, Some, slice_get, refl, arith}
 use Rattle.std.proofs.lemmas.Bool.Decides.{eqb_tells}
-use Rattle.cckd_frames.specs.Nodes.{word, In, trail}
+use Rattle.cckd_frames.specs.Nodes.{word, trail}
 use Rattle.cckd_frames.specs.Table.{node_with, nth_after}
 
 pub node_with-skip : (ws : List ℕ) (key a n : ℕ) → 0 < n → word ws 4 (word ws 2 a) ≢ key
@@ -10,20 +10,6 @@ node_with-skip ws key a zero h ne = absurd (omega arith)
 node_with-skip ws key a (suc m) h ne =
     let e : suc m - 1 ≡ m = omega arith in
     elim (eqb_tells (word ws 4 (word ws 2 a)) key) [ inl t ↦ absurd (ne t.1) | inr f ↦ rw (e, f.0) ]
-
--- where a node of the list has the key, and no other does, that node is found
-pub node_with-found : (ws : List ℕ) (key x : ℕ) (xs : List ℕ) → In x xs → word ws 4 x ≡ key → ((y : ℕ) → In y xs → word ws 4 y ≡ key → y ≡ x) → node_with ws key xs ≡ Some x
-node_with-found ws key x [] i e only = absurd i
-node_with-found ws key x (y ∷ ys) i e only =
-    elim (eqb_tells (word ws 4 y) key) [
-      | inl t ↦ rw t.0 (ap (λ k. Some k) (only y (inl refl) t.1))
-      | inr f ↦ rw f.0 (node_with-found ws key x ys (elim i [ inl at ↦ absurd (f.1 (subst (λ k. word ws 4 k ≡ key) at e)) | inr r ↦ r ]) e (λ z z_in. only z (inr z_in)))
-    ]
-
-pub node_with-none : (ws : List ℕ) (key : ℕ) (xs : List ℕ) → ((y : ℕ) → In y xs → word ws 4 y ≢ key) → node_with ws key xs ≡ None
-node_with-none ws key [] f = refl
-node_with-none ws key (y ∷ ys) f =
-    elim (eqb_tells (word ws 4 y) key) [ inl t ↦ absurd (f y (inl refl) t.1) | inr e ↦ rw e.0 (node_with-none ws key ys (λ z z_in. f z (inr z_in))) ]
 
 pub trail-get : (ws : List ℕ) (c a n k : ℕ) → k < n → slice_get (trail ws c a n) k ≡ Some (nth_after ws c a (k + 1))
 trail-get ws c a zero k h = absurd (omega arith)

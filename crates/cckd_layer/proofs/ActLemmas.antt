@@ -12,7 +12,7 @@ use Rattle.cckd_tables.specs.declared.staged.StagedWord.{StagedWord}
 use Rattle.cckd_tables.proofs.WordLoopLemmas.{one_more}
 use Rattle.cckd_layer.specs.Current.{stored_space}
 use Rattle.cckd_layer.specs.Acts.{left_at, settled_one, settled_all, names_nothing, entry_spaces, word_spaces, committed_pieces}
-use Rattle.cckd_layer.proofs.SpaceLemmas.{names_it, names_none}
+use Rattle.cckd_layer.proofs.SpaceLemmas.{names_none}
 use Rattle.cckd_layer.proofs.SettledLemmas.{settled_append}
 
 replaced_none : (test : Piece → Bool) (news : Piece → List Piece) (ps : List Piece) → first test ps ≡ None → replaced test news ps ≡ ps
@@ -87,12 +87,6 @@ entries_append [] ys = refl
 entries_append (s ∷ xs) ys =
     ap (λ (rest : List Extent). names_nothing s.entry.pos (stored_space s.track s.entry ∷ rest) rest) (entries_append xs ys)
     ∙ nothing_append s.entry.pos (stored_space s.track s.entry) (entry_spaces xs) (entry_spaces ys)
-
--- an entry that names a space, and one that names none
-pub entry_one : (a b : Plan) (e : StagedEntry) → (e.entry.pos ≡ 0 → ⊥) → (e.entry.pos ≡ see_parent → ⊥) → Becomes a b (settled_one (stored_space e.track e.entry) a.pieces) a.size
-    → Becomes a b (settled_all (entry_spaces (e ∷ [])) a.pieces) a.size
-entry_one a b e some other g =
-    subst (λ (xs : List Extent). Becomes a b (settled_all xs a.pieces) a.size) (sym (names_it e.entry.pos (stored_space e.track e.entry ∷ []) [] (some, other))) g
 
 pub entry_none : (a : Plan) (e : StagedEntry) → (e.entry.pos ≡ 0) ⊎ (e.entry.pos ≡ see_parent) → Becomes a a (settled_all (entry_spaces (e ∷ [])) a.pieces) a.size
 entry_none a e none =

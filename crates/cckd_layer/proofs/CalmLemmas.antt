@@ -64,7 +64,7 @@ nothing_blended l was file blend =
       entries = λ t below staged still place. absurd (let m = staged in cc);
     }))
 
-nothing_leaves : (l : Layout) (slot : ℕ) (es : List Event) (was file : List ℕ) → EachOutcome slot (λ f. f ≡ was) es → MayLeave l nothing_staged slot es was file → file ≡ was
+pub nothing_leaves : (l : Layout) (slot : ℕ) (es : List Event) (was file : List ℕ) → EachOutcome slot (λ f. f ≡ was) es → MayLeave l nothing_staged slot es was file → file ≡ was
 nothing_leaves l slot es was file alone (inl near) = nothing_near near.0 file near.2 ∙ alone near.0 near.1
 nothing_leaves l slot es was file alone (inr blended) = nothing_blended l blended.0 file blended.2 ∙ nothing_near was blended.0 blended.1.near
 

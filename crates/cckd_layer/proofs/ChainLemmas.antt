@@ -8,10 +8,9 @@ use Rattle.std.proofs.lemmas.List.{length-append}
 use Rattle.cckd_shelf.specs.declared.fault.Failed.{Failed}
 use Rattle.cckd_shelf.specs.World.{file_of}
 use Rattle.cckd_shelf.specs.Seen.{Seen, Tells}
-use Rattle.cckd_shelf.specs.Outcomes.{WriteLeaves, EachOutcome}
+use Rattle.cckd_shelf.specs.Outcomes.{WriteLeaves}
 use Rattle.cckd_shelf.specs.Stops.{StopsLeave}
 use Rattle.cckd_shelf.specs.Files.{overlaid}
-use Rattle.cckd_shelf.proofs.MomentLemmas.{at_once}
 use Rattle.cckd_base.specs.declared.order.Order.{Order}
 use Rattle.cckd_base.specs.declared.order.Order.TheVariants.{Little, Big}
 use Rattle.cckd_base.specs.Numbers.{bytes_of}
@@ -21,7 +20,7 @@ use Rattle.cckd_space.specs.Plan.{free_from}
 use Rattle.cckd_space.proofs.CallerLemmas.{first_has, laid_has}
 use Rattle.cckd_space.proofs.PlaceLemmas.{has_within}
 use Rattle.cckd_tables.specs.Cells.{OneWrite}
-use Rattle.cckd_tables.proofs.TableLoopLemmas.{Went, went_nowhere, went_more, stop_then, file_then}
+use Rattle.cckd_tables.proofs.TableLoopLemmas.{Went, went_more, stop_then, file_then}
 use Rattle.cckd_layer.specs.Changes.{ChangesFree, IsChained}
 use Rattle.cckd_layer.specs.Chain.{link_bytes, first_place, chained, roomy_from, roomy_pieces}
 
@@ -177,13 +176,6 @@ pub record ChainSoFar (slot : ℕ) (ps : List Piece) (end : ℕ) (order : Order)
   pub now : Tells old → chained order (roomy_from from ps) (file_of new.world slot) ≡ chained order (roomy_from 0 ps) (file_of old.world slot)
   pub went : Went slot old new
   pub stopped : StopsLeave slot (IsChained old.world.events slot ps end) old new
-
-pub chain_first : (slot : ℕ) (ps : List Piece) (end : ℕ) (order : Order) (s : Seen) → ChainSoFar slot ps end order 0 s s
-chain_first slot ps end order s = record {
-  now = λ told. refl;
-  went = went_nowhere slot s;
-  stopped = λ told. at_once (EachOutcome slot (IsChained s.world.events slot ps end)) s.world.events (λ file h. (file, h, changes_nothing ps end file));
-}
 
 pub chain_stopped : (slot : ℕ) (ps : List Piece) (end : ℕ) (order : Order) (from pos size : ℕ) (link : List ℕ) (old mid new : Seen) (result : Result (Unit {0}) Failed) → (Tells old → Tells mid)
     → IsNextRoomy ps end from pos size → length link ≡ 8 → OneWrite slot pos link result mid new → ChainSoFar slot ps end order from old mid → StopsLeave slot (IsChained old.world.events slot ps end) old new

@@ -100,20 +100,6 @@ still_one t g old new start before behind own looks used quiet once made = elim 
   ]
 ]
 
--- or a last one that failed
-pub last_one : (t g : ℕ) (old : TableView) (start before behind : ℕ) → t / 256 ≡ g → (IsAtHand t old → behind ≡ before) → behind ≤ before + 1 → MadeOne g old start before → behind ≤ start + 1
-last_one t g old start before behind own quiet once made = elim made [
-  | inl e ↦ omega (arith, e, once)
-  | inr m ↦
-      let cached : IsCached (t / 256) old.cached = subst (λ (h : ℕ). IsCached h old.cached) (sym own) m.1 in
-      let same = quiet (inr cached) in
-      omega (arith, same, m.0)
-]
-
-pub at_most_one : (g : ℕ) (v : TableView) (start calls : ℕ) → MadeOne g v start calls → calls ≤ start + 1
-at_most_one g v start calls (inl e) = omega (arith, e)
-at_most_one g v start calls (inr m) = m.0
-
 -- the tracks of a group were counted up to one of them, by at most one call
 pub record HasCounted (m : List ℕ → Tracks) (slot from : ℕ) (old new : TableView) (before behind : Seen) (number count : ℕ) : Type 0 where
   pub counted : OfFile slot (λ file. count + tracks_in (m file) from ≡ tracks_in (m file) number) before

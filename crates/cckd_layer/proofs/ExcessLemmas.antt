@@ -20,15 +20,13 @@ use Rattle.cckd_base.specs.declared.space.Owner.TheVariants.{Track}
 use Rattle.cckd_base.specs.Geometry.{track_count}
 use Rattle.cckd_base.specs.Entry.{entry_at}
 use Rattle.cckd_space.specs.declared.piece.Piece.{Piece}
-use Rattle.cckd_tables.specs.declared.device.Device.{Device}
-use Rattle.cckd_tables.specs.declared.device.Device.TheVariants as device
 use Rattle.cckd_tables.specs.Looking.{with_cached}
 use Rattle.cckd_tables.specs.Staging.{Stages, new_entry}
 use Rattle.cckd_tables.specs.Tables.{TableView, CachedTable, HasWords, AreOf}
 use Rattle.cckd_layer.specs.Held.{NullBytes, held}
 use Rattle.cckd_layer.specs.Mounted.{LayerState, CanRead, with_tables}
-use Rattle.cckd_layer.specs.Writes.{Agrees, AgreesAgain, failed_by, map_of}
-use Rattle.cckd_layer.specs.Loose.{Loose, Tied, TiedIn, IsLastTrack, PassesEnd, IsOnlyLooked, IsSameBeside, IsUndisturbed, Completes, IsComplete, bare_tables}
+use Rattle.cckd_layer.specs.Writes.{Agrees, AgreesAgain, map_of}
+use Rattle.cckd_layer.specs.Loose.{Loose, Tied, TiedIn, IsLastTrack, PassesEnd, IsOnlyLooked, IsUndisturbed, Completes, bare_tables}
 use Rattle.cckd_layer.proofs.PrepareLemmas.{looked_agrees}
 use Rattle.cckd_layer.proofs.TiedLemmas.{loose_agrees, loose_snug, loose_with, last_cut, agrees_last, tied_cached}
 
@@ -118,11 +116,6 @@ passes_with s words cached w v t e same are p =
       clipped = p.clipped;
     })
 
--- the layer agrees with its file still
-pub agrees_cached : (null : NullBytes) (s : LayerState) (cached : List CachedTable) (old new : Seen) → new.world ≡ old.world → AreOf (with_cached s.tables cached) (file_of old.world s.slot)
-    → Agrees s old.world → Agrees (with_tables s (with_cached s.tables cached)) new.world
-agrees_cached null s cached old new same are a = (looked_agrees [] null s cached old new same are a).agrees
-
 -- nothing was looked at
 pub looked_nothing : (s : LayerState) (a : Seen) → TiedIn s a → IsOnlyLooked s s a a
 looked_nothing s a tied = record { kept = λ told. refl; rest = refl; tied = tied }
@@ -136,24 +129,6 @@ looked_then s m a b c tells back h stays = record {
 }
 
 -- ---- what is the same
-
-pub beside_looked : (s m : LayerState) (a b : Seen) → IsOnlyLooked s m a b → IsSameBeside s m
-beside_looked s m a b h = subst (IsSameBeside s) (sym h.rest) (record { rest = refl; layout = refl; stages = refl })
-
-pub beside_bare : (s m : LayerState) (words : List ℕ) → m ≡ with_tables s (bare_tables s.tables words) → IsSameBeside s m
-beside_bare s m words e = subst (IsSameBeside s) (sym e) (record { rest = refl; layout = refl; stages = refl })
-
-pub beside_twice : (a b c : LayerState) → IsSameBeside a b → IsSameBeside b c → IsSameBeside a c
-beside_twice a b c h k = record {
-  rest = k.rest ∙ ap (λ (x : LayerState). record x { tables = c.tables; broken = c.broken }) h.rest;
-  layout = k.layout ∙ h.layout;
-  stages = k.stages ∙ h.stages;
-}
-
-pub beside_failed : (s : LayerState) (d : Device) → IsSameBeside s (failed_by d s)
-beside_failed s device.Read = record { rest = refl; layout = refl; stages = refl }
-beside_failed s device.Write = record { rest = refl; layout = refl; stages = refl }
-beside_failed s device.Sync = record { rest = refl; layout = refl; stages = refl }
 
 -- ---- what is done where the layer agrees
 
@@ -183,20 +158,6 @@ completes_looked null s m a b h agrees told sure = record {
         (ap (λ (w : World). held null s.tables.layout s.tables.stages (file_of w s.slot) t) (h.kept told));
   };
 }
-
--- what completes the layer with other tables of its file, completes it
-pub completes_from : (null : NullBytes) (s m n : LayerState) (words : List ℕ) (cached : List CachedTable) (a b c : Seen) → m ≡ with_tables s (tables_with s.tables words cached) → Stays a b → (Tells a → Tells b)
-    → Completes null m n b c → Completes null s n a c
-completes_from null s m n words cached a b c e stays tells h told sure =
-    let k = subst (λ (x : LayerState). IsComplete null x n b c) e (h (tells told) (subst IsSure (sym (stays told)) sure)) in
-    record {
-      agrees = k.agrees;
-      same = record { each = λ t low. k.same.each t low ∙ ap (λ (w : World). held null s.tables.layout s.tables.stages (file_of w s.slot) t) (stays told) };
-    }
-
--- the tables of a layer that was looked at and then forgot them
-pub looked_bare : (s m n : LayerState) (a b : Seen) → IsOnlyLooked s m a b → n ≡ with_tables m (bare_tables m.tables n.tables.words) → n ≡ with_tables s (bare_tables s.tables n.tables.words)
-looked_bare s m n a b h e = e ∙ ap (λ (x : LayerState). with_tables x (bare_tables x.tables n.tables.words)) h.rest
 
 -- the space passes the end still, once the words were read anew
 pub passes_bare : (s : LayerState) (words : List ℕ) (w v : World) (t : ℕ) (e : L2Entry) → v ≡ w → HasWords s.tables.layout words (file_of w s.slot) → PassesEnd s w t e

@@ -54,3 +54,6 @@ pub mod TiedLemmas
 pub mod CompleteLemmas
 pub mod ExcessLemmas
 pub mod CalmLemmas
+pub mod TakenLemmas
+pub mod HeadedLemmas
+pub mod EndedLemmas

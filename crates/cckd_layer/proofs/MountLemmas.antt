@@ -4,7 +4,7 @@ use Rattle.std.proofs.Common.{◌≡◌, ℕ, ◌<◌, ◌≤◌, Bool, false, L
 use Rattle.std.proofs.lemmas.Bool.{false≢true}
 use Rattle.std.specs.Prelude.{Result, Ok, Err, IfOk}
 use Rattle.cckd_shelf.specs.World.{World, IsSure, file_of, after_sync}
-use Rattle.cckd_shelf.specs.Outcomes.{IsOutcome, EachOutcome}
+use Rattle.cckd_shelf.specs.Outcomes.{EachOutcome}
 use Rattle.cckd_shelf.specs.Seen.{Seen, Tells, Makes}
 use Rattle.cckd_shelf.proofs.OutcomeLemmas.{now_is_outcome, sync_leaves_now}
 use Rattle.cckd_base.specs.declared.geometry.Layout.{Layout}
@@ -30,10 +30,8 @@ use Rattle.cckd_image.specs.Image.{identifiers_of}
 use Rattle.cckd_base.proofs.PlaceLemmas.{table_inside}
 use Rattle.cckd_layer.specs.Sits.{IsHeld, Sits, identifiers_for}
 use Rattle.cckd_layer.specs.Current.{stored_space, IsInUse, IsReplaced, IsPlaced, Current}
-use Rattle.cckd_tables.specs.Looking.{with_cached}
-use Rattle.cckd_layer.specs.Held.{NullBytes, Holds, held, held_in}
 use Rattle.cckd_layer.specs.Stands.{LayerView, Stands, nothing_staged}
-use Rattle.cckd_layer.specs.Mounted.{LayerState, ReadsFrom, CanRead, IsFresh, kept_view, with_tables, HasHeaders, HasSpaces, IsOf}
+use Rattle.cckd_layer.specs.Mounted.{LayerState, ReadsFrom, CanRead, IsFresh, kept_view, HasHeaders, HasSpaces, IsOf}
 use Rattle.cckd_base.specs.declared.open_fault.OpenFault.{OpenFault}
 use Rattle.cckd_layer.specs.Reads.{OfFile}
 use Rattle.cckd_layer.proofs.RoleLemmas.{headed_for}
@@ -250,23 +248,3 @@ all_read roles slot limit (Ok s) old new tells made fresh of = λ told sure.
     subst (λ (n : ℕ). ReadsFrom s.tables (file_of new.world n)) (sym fresh.slot_is)
     (subst (λ (w : World). ReadsFrom s.tables (file_of w slot)) (sym e)
     (mount_reads roles slot limit s (file_of old.world slot) fresh (of (tells told) (subst IsSure e sure))))
-
--- For callers: whatever a stop leaves of a slot that was just mounted holds the layer's map.
-pub mount_holds : (null : NullBytes) (roles : Roles) (slot limit : ℕ) (s : LayerState) (w new : World) → IsSure w → new ≡ after_sync slot w → limit ≤ format_limit
-    → IsFresh slot limit s → IsOf roles (file_of w slot) s → IsSnug s.tables.layout (file_of w slot)
-    → EachOutcome slot (Holds null s.tables.layout (held null s.tables.layout s.tables.stages (file_of w slot))) new.events
-mount_holds null roles slot limit s w new sure made short fresh of snug left outcome =
-    let file = file_of w slot in
-    let l = s.tables.layout in
-    let stands = mount_stands roles slot limit s w new sure made short fresh of snug in
-    let at : left ≡ file = sync_leaves_now slot w.events sure left (subst (λ (x : World). IsOutcome x.events slot left) made outcome) in
-    record {
-      whole = (stands.each left outcome).whole;
-      same = record {
-        each = λ t low. ap (λ (f : List ℕ). held_in null l f t) at ∙ ap (λ (stages : Stages). held null l stages file t) (sym fresh.stages);
-      };
-    }
-
--- For callers: a read leaves what goes with the file as it is.
-pub view_stays : (old new : LayerState) (cached : List CachedTable) → new ≡ with_tables old (with_cached old.tables cached) → kept_view new ≡ kept_view old
-view_stays old new cached e = ap kept_view e

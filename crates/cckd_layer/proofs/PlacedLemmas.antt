@@ -1,19 +1,18 @@
 -- What was placed is staged: the layer has the new bytes of the track.
-use Rattle.std.proofs.Common.{◌≡◌, ◌⊎◌, ◌+◌, ◌%◌, ◌/◌, ◌<◌, ◌≤◌, ℕ, List, [], ◌∷◌, ◌++◌, length, Option, Some, None, IsSome, IsNone, refl, sym, ◌∙◌, subst, inl, inr, arith, append-nil}
+use Rattle.std.proofs.Common.{◌≡◌, ◌+◌, ◌/◌, ◌<◌, ◌≤◌, ℕ, List, [], ◌∷◌, ◌++◌, length, Option, Some, None, IsSome, IsNone, refl, sym, ◌∙◌, subst, inl, inr, arith}
 use Rattle.cckd_shelf.specs.World.{World, file_of}
 use Rattle.cckd_shelf.specs.Seen.{Seen}
 use Rattle.cckd_base.specs.declared.geometry.Layout.{Layout}
 use Rattle.cckd_base.specs.declared.entry.L2Entry.{L2Entry}
 use Rattle.cckd_base.specs.declared.space.Extent.{Extent}
 use Rattle.cckd_base.specs.Geometry.{track_count}
-use Rattle.cckd_base.specs.Entry.{word_at, bytes_by_entry}
-use Rattle.cckd_base.specs.Image.{IsPlace}
+use Rattle.cckd_base.specs.Entry.{bytes_by_entry}
 use Rattle.cckd_base.specs.Misfit.{entry_misfit}
 use Rattle.cckd_tables.specs.Staging.{IsMoved, place_for}
-use Rattle.cckd_tables.specs.Tables.{TableView, AreOf}
+use Rattle.cckd_tables.specs.Tables.{TableView}
 use Rattle.cckd_tables.specs.declared.staged.StagedWord.{StagedWord}
 use Rattle.cckd_tables.specs.Stages.{free_count, with_word}
-use Rattle.cckd_tables.specs.Looking.{IsTables, HasAlignedTable}
+use Rattle.cckd_tables.specs.Looking.{IsTables}
 use Rattle.cckd_tables.proofs.StageLemmas.{count_word_new, count_word_again}
 use Rattle.cckd_layer.specs.Held.{NullBytes, AreSame}
 use Rattle.cckd_layer.specs.Current.{claim}
@@ -22,13 +21,6 @@ use Rattle.cckd_layer.specs.Writes.{AgreesWith, TakesClaim, CanStage, StoresIn, 
 use Rattle.cckd_layer.specs.Storing.{CanPlace}
 use Rattle.cckd_layer.proofs.ClaimLemmas.{place_or_none}
 use Rattle.cckd_layer.proofs.SwapLemmas.{agrees_swap}
-
--- a group with an aligned table has one in the file, or a new one
-pub tabled_of : (v : TableView) (file : List ℕ) (g : ℕ) → g < v.layout.groups → AreOf v file → HasAlignedTable v g → IsMoved g v.stages ⊎ (IsPlace (word_at v.layout file g) × (word_at v.layout file g % 8 ≡ 0))
-tabled_of v file g low are (inl moved) = inl moved
-tabled_of v file g low are (inr stands) =
-    let same = sym (are.words g low) in
-    inr (subst IsPlace same stands.0, subst (λ (w : ℕ). w % 8 ≡ 0) same stands.1)
 
 -- the map of a layer that kept it is stored over
 pub stores_then : (claims : List Extent) (null : NullBytes) (s m n : LayerState) (t : ℕ) (bytes : Option (List ℕ)) (a b c : Seen) → IsSameFile s m → AreSame (track_count s.tables.layout.geo) (map_of null m b) (map_of null s a)
@@ -52,16 +44,6 @@ table_first (x ∷ y ∷ rest) e q s w takes a = absurd (two_taken takes)
       | inl place ↦ (let one = k.space place in cc)
       | inr none ↦ (let nothing = k.nothing none in cc)
     ]
-
--- where the group has a table
-pub can_stage_none : (claims : List Extent) (s : LayerState) (t old : ℕ) (e : L2Entry) (len : ℕ) (w : Seen) → t / 256 < s.tables.layout.groups → HasAlignedTable s.tables (t / 256) → CanPlace claims s t old None e len w → CanStage claims [] s t e w
-can_stage_none claims s t old e len w low has k =
-    let a = subst (λ (cs : List Extent). AgreesWith cs s w.world) (append-nil claims) k.agrees in
-    record {
-      agrees = a;
-      takes = k.takes;
-      can = record { low = k.low; fits = k.fits; snug = k.snug; tabled = tabled_of s.tables (file_of w.world s.slot) (t / 256) low a.are has };
-    }
 
 -- where it gets one, which is staged
 pub can_stage_new : (claims : List Extent) (s m : LayerState) (t old q : ℕ) (e : L2Entry) (len : ℕ) (w : Seen) → IsSameFile s m → IsMoved (t / 256) m.tables.stages → AgreesWith claims m w.world → CanPlace claims s t old (Some q) e len w

@@ -1,13 +1,10 @@
 -- What a write needs before it changes anything.
-use Rattle.std.proofs.Common.{◌≡◌, ◌%◌, ◌/◌, ◌<◌, ℕ, List, [], length, slice_index, Option, Some, None, IsSome, Result, Ok, Err, IfErr, refl, sym, ap, subst, inl, inr, arith}
-use Rattle.std.specs.Option.{unwrap_or}
+use Rattle.std.proofs.Common.{◌≡◌, ◌/◌, ◌<◌, ℕ, List, [], length, Option, Result, Ok, Err, IfErr, refl, sym, ap, subst, arith}
 use Rattle.cckd_shelf.specs.World.{World, file_of}
 use Rattle.cckd_shelf.specs.Seen.{Seen, Tells, Stays}
 use Rattle.cckd_base.specs.declared.space.Extent.{Extent}
-use Rattle.cckd_base.specs.Image.{IsPlace}
-use Rattle.cckd_tables.specs.Staging.{place_for}
 use Rattle.cckd_tables.specs.Tables.{TableView, CachedTable, AreOf}
-use Rattle.cckd_tables.specs.Looking.{HasAlignedTable, word_of, with_cached}
+use Rattle.cckd_tables.specs.Looking.{HasAlignedTable, with_cached}
 use Rattle.cckd_layer.specs.Held.{NullBytes}
 use Rattle.cckd_layer.specs.Mounted.{LayerState, with_tables}
 use Rattle.cckd_base.specs.declared.space.Full.{Full}
@@ -16,35 +13,6 @@ use Rattle.cckd_base.specs.declared.layer_fault.LayerFault.TheVariants as fault
 use Rattle.cckd_layer.specs.declared.preparing.Room.{Room}
 use Rattle.cckd_layer.specs.Preparing.{HasNoneToFree, IsDenial, IsDeniedFor, IsNoRoomIn, FindsRoom}
 use Rattle.cckd_layer.specs.Writes.{Agrees, KeepsMap, IsSameFile, IsOutside, with_plan, AgreesWith, AgreesAgainWith, KeepsMapWith}
-
--- a word at a place at a multiple of 8 is that of a group that has, or gets, an aligned table
-pub word_has : (v : TableView) (g : ℕ) → IsPlace (word_of v g) → word_of v g % 8 ≡ 0 → HasAlignedTable v g
-word_has v g place aligned = by (place_for g v.stages.words) refl
-  where
-    by : (o : Option ℕ) → place_for g v.stages.words ≡ o → HasAlignedTable v g
-    by None none =
-        let same : word_of v g ≡ slice_index v.words g = ap (λ (o : Option ℕ). unwrap_or o (slice_index v.words g)) none in
-        inr (subst IsPlace same place, subst (λ (w : ℕ). w % 8 ≡ 0) same aligned)
-    by (Some pos) some = inl (subst (λ (o : Option ℕ). IsSome o) (sym some) refl)
-
--- and the other way, where the layer agrees with its file
-pub has_word : (claims : List Extent) (s : LayerState) (w : World) (g : ℕ) → AgreesWith claims s w → HasAlignedTable s.tables g → IsPlace (word_of s.tables g) × (word_of s.tables g % 8 ≡ 0)
-has_word claims s w g a has = by (place_for g s.tables.stages.words) refl
-  where
-    file : ℕ
-    file = slice_index s.tables.words g
-
-    by : (o : Option ℕ) → place_for g s.tables.stages.words ≡ o → IsPlace (word_of s.tables g) × (word_of s.tables g % 8 ≡ 0)
-    by (Some pos) some =
-        let k = a.stands.now.words g pos some in
-        let same : word_of s.tables g ≡ pos = ap (λ (o : Option ℕ). unwrap_or o file) some in
-        (subst IsPlace (sym same) k.place, subst (λ (x : ℕ). x % 8 ≡ 0) (sym same) k.aligned)
-    by None none =
-        let same : word_of s.tables g ≡ file = ap (λ (o : Option ℕ). unwrap_or o file) none in
-        elim has [
-          | inl moved ↦ absurd (let m = subst (λ (o : Option ℕ). IsSome o) none moved in cc)
-          | inr stands ↦ (subst IsPlace (sym same) stands.0, subst (λ (x : ℕ). x % 8 ≡ 0) (sym same) stands.1)
-        ]
 
 -- the layer agrees with its file as before, whatever of its tables is cached
 pub looked_agrees : (claims : List Extent) (null : NullBytes) (s : LayerState) (cached : List CachedTable) (old new : Seen) → new.world ≡ old.world → AreOf (with_cached s.tables cached) (file_of old.world s.slot)

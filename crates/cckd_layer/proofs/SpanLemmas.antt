@@ -249,28 +249,6 @@ spans_left old new file pos b laid s =
     spans_by old new file laid b.sized b.limit (subst (EndsBy (length file)) (sym b.made) (ends_left (length file) pos old.pieces (spans_ends old file s)))
     (λ at n h. inr (subst (Has (reserved_piece at n)) (sym b.made) (kept_reserved (is_used_at pos) left old.pieces at n refl h))) s
 
--- a Reserved piece is settled whose bytes are in the file
-pub spans_settled : (old new : Plan) (file : List ℕ) (x : Extent) → Becomes old new (replaced (is_reserved_at x.pos) (λ p. settled x.len x.owner p ∷ []) old.pieces) old.size
-    → IsLaid 0 new.pieces new.size → Has (placed_piece x) old.pieces → x.pos + x.size ≤ length file → Spans old file → Spans new file
-spans_settled old new file x b laid there within s =
-    spans_by old new file laid b.sized b.limit (subst (EndsBy (length file)) (sym b.made) (ends_settled (length file) x old.pieces old.size s.laid there within (spans_ends old file s)))
-    (λ at n h. elim (cases_eq at x.pos) [
-      | inr other ↦ inr (subst (Has (reserved_piece at n)) (sym b.made) (kept_reserved (is_reserved_at x.pos) (settled x.len x.owner) old.pieces at n (ne_eqb at x.pos other) h))
-      | inl same ↦
-          let y : Extent = record { pos = at; len = n; size = n; owner = x.owner } in
-          let f = placed_at y old.pieces old.size s.laid h in
-          let g = placed_at x old.pieces old.size s.laid there in
-          let one : Some (placed_piece y) ≡ Some (placed_piece x) = sym f ∙ (ap (λ (k : ℕ). first (is_reserved_at k) old.pieces) same ∙ g) in
-          let size : n ≡ x.size = (let e : placed_piece y ≡ placed_piece x = cc in ap (λ (p : Piece). p.size) e) in
-          inl (omega (arith, same, size, within))
-    ]) s
-
--- what leaves is replaced
-pub spans_retired : (old new : Plan) (file : List ℕ) → Becomes old new (map retired old.pieces) old.size → IsLaid 0 new.pieces new.size → Spans old file → Spans new file
-spans_retired old new file b laid s =
-    spans_by old new file laid b.sized b.limit (subst (EndsBy (length file)) (sym b.made) (ends_retired (length file) old.pieces (spans_ends old file s)))
-    (λ at n h. inr (subst (Has (reserved_piece at n)) (sym b.made) (has_map retired old.pieces (reserved_piece at n) h))) s
-
 -- Pending becomes Free
 pub spans_released : (old new : Plan) (file : List ℕ) → Becomes old new (merged (map released old.pieces)) old.size → IsLaid 0 new.pieces new.size → Spans old file → Spans new file
 spans_released old new file b laid s =

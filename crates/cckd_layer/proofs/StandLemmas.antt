@@ -1,12 +1,9 @@
 -- What holds between calls is kept by bytes that are put to a free place.
-use Rattle.std.proofs.Common.{◌≡◌, ◌⊎◌, ℕ, ◌+◌, ◌%◌, ◌<◌, ◌≤◌, max, true, List, ◌∷◌, length, map, Option, Some, None, IsSome, Result, Ok, Err, refl, sym, ◌∙◌, ap, subst, inl, inr, arith}
+use Rattle.std.proofs.Common.{◌≡◌, ◌⊎◌, ℕ, ◌+◌, ◌%◌, ◌<◌, ◌≤◌, max, true, List, ◌∷◌, length, map, Option, Some, None, IsSome, refl, sym, ◌∙◌, ap, subst, inl, inr, arith}
 use Rattle.std.specs.Option.{option_map, unwrap_or}
 use Rattle.cckd_shelf.specs.Files.{overlaid}
 use Rattle.cckd_shelf.specs.World.{World, file_of, after_write, after_sync}
-use Rattle.cckd_shelf.specs.Outcomes.{WriteLeaves, EachOutcome, AtEach}
-use Rattle.cckd_shelf.specs.Seen.{Seen, Tells}
-use Rattle.cckd_shelf.specs.Stops.{StopsLeave}
-use Rattle.cckd_shelf.proofs.MomentLemmas.{weaker, kept_at}
+use Rattle.cckd_shelf.specs.Outcomes.{WriteLeaves, EachOutcome}
 use Rattle.cckd_shelf.proofs.OutcomeLemmas.{sync_step, sync_leaves_now, write_step, write_made, now_is_outcome, length_overlaid, overlaid_within_range}
 use Rattle.cckd_shelf.proofs.WorldLemmas.{now_wrote, sure_wrote}
 use Rattle.cckd_base.specs.declared.geometry.Layout.{Layout}
@@ -24,17 +21,15 @@ use Rattle.cckd_space.specs.Pieces.{Has, IsLaid, first, has_room, aligned_up, en
 use Rattle.cckd_space.specs.Plan.{Plan, Becomes, place_of}
 use Rattle.cckd_space.proofs.PlaceLemmas.{placed_clear, has_within}
 use Rattle.cckd_tables.specs.Staging.{Stages, IsStaged, IsMoved, entry_for, place_for}
-use Rattle.cckd_layer.specs.Held.{NullBytes, Tracks, Later, Keeps, held}
+use Rattle.cckd_layer.specs.Held.{NullBytes, held}
 use Rattle.cckd_layer.specs.Sits.{identifiers_for, IsMarked, held_kind, IsHeld, Rests, Sits}
 use Rattle.cckd_layer.specs.Current.{stored_space, claim, IsInUse, IsReplaced, IsPlaced, leaving_piece, placed_piece, Accounts, Current}
-use Rattle.cckd_layer.specs.Changes.{Fills, IsFilled}
-use Rattle.cckd_layer.specs.declared.placing.PutFault.{PutFault}
-use Rattle.cckd_layer.specs.declared.placing.PutFault.TheVariants as fault
-use Rattle.cckd_layer.specs.Puts.{IsReserved, Puts, MakesPut}
+use Rattle.cckd_layer.specs.Changes.{Fills}
+use Rattle.cckd_layer.specs.Puts.{IsReserved}
 use Rattle.cckd_layer.specs.Stands.{LayerView, Stands}
 use Rattle.cckd_layer.proofs.AccountLemmas.{accounts_released}
 use Rattle.cckd_layer.proofs.SpanLemmas.{KeepsHeld, held_placed, keeps_sits, spans_released}
-use Rattle.cckd_layer.proofs.FillLemmas.{StaysWhole, filled_whole, rests_free, stays_sits, stays_marked, stays_keeps, write_fills, fills_part}
+use Rattle.cckd_layer.proofs.FillLemmas.{StaysWhole, filled_whole, rests_free, stays_sits, stays_marked, write_fills, fills_part}
 use Rattle.cckd_layer.proofs.CurrentLemmas.{names_stay, current_grown, current_placed}
 
 -- the file now sits in the pieces
@@ -155,39 +150,6 @@ stands_put v slot w after new bytes some even s r laid made =
     }
 
 -- ---- at each operation
-
--- what is kept where words, entries, stored bytes and headers stay
-pub record IsKept (l : Layout) (P : List ℕ → Type 0) : Type 0 where
-  pub step : (was file : List ℕ) → StaysWhole l was file → P was → P file
-
-pub keeps_kept : (null : NullBytes) (l : Layout) (d : Tracks) (later : List Later) → IsKept l (Keeps null l d later)
-keeps_kept null l d later = record { step = λ was file x h. stays_keeps null l d later was file x h }
-
-pub sits_kept : (l : Layout) (ps : List Piece) → IsKept l (Sits l ps)
-sits_kept l ps = record { step = λ was file x h. stays_sits l ps was file x h }
-
-pub marked_kept : (l : Layout) → IsKept l IsMarked
-marked_kept l = record { step = λ was file x h. stays_marked l was file x h }
-
--- What is kept so holds of each outcome at each operation of a put, where it did before.
-pub put_each : (P : List ℕ → Type 0) (v : LayerView) (slot : ℕ) (old new : Seen) (bytes : List ℕ) (plan : Plan) (result : Result ℕ PutFault) → IsKept v.layout P → 0 < length bytes → Tells old → Stands v slot old.world
-    → Puts (length bytes) v.plan plan result → MakesPut slot (place_of (length bytes) v.plan.pieces) bytes result old new
-    → StopsLeave slot (IsFilled old.world.events slot (place_of (length bytes) v.plan.pieces) (length bytes)) old new
-    → EachOutcome slot P old.world.events → AtEach old.world.events new.world.events (EachOutcome slot P)
-put_each P v slot old new bytes plan result kept some told s puts made stops each = by result puts made
-  where
-    step : IsReserved (length bytes) v.plan plan → AtEach old.world.events new.world.events (EachOutcome slot P)
-    step r =
-        let n = length bytes in
-        weaker (EachOutcome slot (IsFilled old.world.events slot (place_of n v.plan.pieces) n)) (EachOutcome slot P) old.world.events new.world.events
-        (λ es h f o.
-        let k = h f o in
-        kept.step k.0 f (put_whole v.layout v.plan n k.0 f some s.now.spans.laid r.within s.now.spans.short s.now.spans.limited k.2 (s.each k.0 k.1)) (each k.0 k.1)) (stops told)
-
-    by : (x : Result ℕ PutFault) → Puts (length bytes) v.plan plan x → MakesPut slot (place_of (length bytes) v.plan.pieces) bytes x old new → AtEach old.world.events new.world.events (EachOutcome slot P)
-    by (Ok pos) p m = step p.1
-    by (Err (fault.Full full)) p m = kept_at (EachOutcome slot P) old.world new.world (m told) each
-    by (Err fault.Write) p m = step p
 
 -- ---- a space is placed, and nothing is written
 

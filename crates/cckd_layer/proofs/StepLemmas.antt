@@ -16,9 +16,6 @@ use Rattle.cckd_layer.specs.Mounted.{LayerState}
 use Rattle.cckd_layer.specs.Writes.{Agrees, AgreesAgain, KeepsMap, KeepsMapWith, with_plan, map_of, IsSameLayer, IsCommitted, IsReleased, IsSettled, StopsWithin}
 use Rattle.cckd_layer.specs.Acts.{spaces_of, settled_all}
 
-pub same_layer_twice : (a b c : LayerState) → IsSameLayer a b → IsSameLayer b c → IsSameLayer a c
-same_layer_twice a b c h k = record { slot = k.slot ∙ h.slot; header = k.header ∙ h.header; layout = k.layout ∙ h.layout; limit = k.limit ∙ h.limit; marked = k.marked ∙ h.marked }
-
 pub committed_same : (s next : LayerState) → IsCommitted s next → IsSameLayer s next
 committed_same s next c = record {
   slot = ap (λ (x : LayerState). x.slot) c.rest;

@@ -1,5 +1,5 @@
 -- Acts of a layer that has claimed places, one after the other.
-use Rattle.std.proofs.Common.{◌≡◌, ◌⊎◌, ◌<◌, ℕ, List, [], Option, IsSome, Some, None, Result, Ok, Err, IfOk, IfErr, OnOk, OnErr, refl, sym, ◌∙◌, ap, subst, inl, inr}
+use Rattle.std.proofs.Common.{◌≡◌, ◌⊎◌, ◌<◌, ℕ, List, [], Option, Result, Ok, Err, IfOk, IfErr, OnOk, OnErr, sym, ◌∙◌, ap, subst, inl, inr}
 use Rattle.cckd_shelf.specs.Outcomes.{EachOutcome, AtEach}
 use Rattle.cckd_shelf.specs.Seen.{Seen, Tells, Stays}
 use Rattle.cckd_shelf.specs.Frame.{OnlyIn}
@@ -8,15 +8,11 @@ use Rattle.cckd_shelf.proofs.FrameLemmas.{only_twice, only_stays}
 use Rattle.cckd_base.specs.declared.geometry.Layout.{Layout}
 use Rattle.cckd_base.specs.declared.space.Extent.{Extent}
 use Rattle.cckd_base.specs.Geometry.{track_count}
-use Rattle.cckd_space.specs.declared.piece.Piece.{Piece}
-use Rattle.cckd_space.specs.Pieces.{first, is_reserved_at}
-use Rattle.cckd_space.specs.Plan.{Plan}
 use Rattle.cckd_tables.specs.declared.device.Device.{Device}
 use Rattle.cckd_tables.specs.declared.device.Device.TheVariants as device
 use Rattle.cckd_layer.specs.Held.{NullBytes, Tracks, Later, IsLater, AreSame, LiesWithin, Keeps}
 use Rattle.cckd_base.specs.declared.layer_fault.LayerFault.{LayerFault}
 use Rattle.cckd_layer.specs.Mounted.{LayerState}
-use Rattle.cckd_layer.specs.Acts.{MayGiveBack}
 use Rattle.cckd_layer.specs.Writes.{AgreesWith, KeepsMap, KeepsMapWith, StopsWithin, StopsWithinWith, IsSameLayer, IsSameFile, IsAct, IsPut, map_of, failed_by, marked_layer}
 
 pub same_file_twice : (a b c : LayerState) → IsSameFile a b → IsSameFile b c → IsSameFile a c
@@ -24,20 +20,6 @@ same_file_twice a b c h k = record { slot = k.slot ∙ h.slot; layout = k.layout
 
 pub same_file : (a b : LayerState) → IsSameLayer a b → IsSameFile a b
 same_file a b h = record { slot = h.slot; layout = h.layout; limit = h.limit }
-
--- a call that fails leaves the file that the layer is of
-pub same_failed : (s : LayerState) (d : Device) → IsSameFile s (failed_by d s)
-same_failed s device.Read = record { slot = refl; layout = refl; limit = refl }
-same_failed s device.Write = record { slot = refl; layout = refl; limit = refl }
-same_failed s device.Sync = record { slot = refl; layout = refl; limit = refl }
-
--- giving a place back leaves the limit
-pub limit_given : (pos len : ℕ) (old new : Plan) → MayGiveBack pos len old new → new.limit ≡ old.limit
-limit_given pos len old new may = by (first (is_reserved_at pos) old.pieces) refl
-  where
-    by : (o : Option Piece) → first (is_reserved_at pos) old.pieces ≡ o → new.limit ≡ old.limit
-    by None none = ap (λ (p : Plan). p.limit) (may.kept none)
-    by (Some p) some = (may.given (subst (λ (x : Option Piece). IsSome x) (sym some) refl)).limit
 
 -- an act that does nothing to the outside
 pub act_still : (claims : List Extent) (null : NullBytes) (s next : LayerState) (old new : Seen) → IsSameFile s next → Stays old new → IsAct claims null s next old new

@@ -65,6 +65,10 @@ IsClosingAs events slot ps size c file = (bytes : List ℕ) × SpellsSecond byte
 abbrev pub IsClosedFrom : Order → List Piece → CckdHeader → List ℕ → List ℕ → Type 0
 IsClosedFrom order ps c old new = (bytes : List ℕ) × SpellsSecond bytes c × (new ≡ overlaid (chained order (roomy_from 0 ps) old) 512 bytes)
 
+-- what a stop leaves while an image is closed whose file was this: some links were written, or all of them and then this second header
+abbrev pub IsEnding : List Event → ℕ → List Piece → ℕ → Order → CckdHeader → List ℕ → List ℕ → Type 0
+IsEnding events slot ps size order c was file = IsChained events slot ps size file ⊎ IsClosedFrom order ps c was file
+
 -- the headers of an image once it is opened, and once it is closed
 abbrev pub opened_header : ImageHeader → ImageHeader
 opened_header h = record h { cckd = opened_second h.cckd }

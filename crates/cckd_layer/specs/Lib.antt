@@ -1,3 +1,4 @@
+pub mod Headed
 pub mod Held
 pub mod Sits
 pub mod Current
@@ -15,4 +16,5 @@ pub mod Writes
 pub mod Loose
 pub mod Preparing
 pub mod Storing
+pub mod Taken
 pub mod Calm

@@ -81,11 +81,11 @@ IsAtHand t v = NeedsNoTable t v ⊎ IsCached (t / 256) v.cached
 
 -- What a read of a track does to the calls and to the tables: it makes at most two calls, and at most one where the table is
 -- at hand; a table that was needed is cached then, unless a call failed.
-pub record LooksOnce {A : Type 0} (t : ℕ) (result : Result A LayerFault) (old new : TableView) (before behind : Seen) : Type 0 where
-  pub looks : LooksUp t old new
-  pub used : NeedsTable t old → (result ≡ Err fault.ReadFault → ⊥) → IsCached (t / 256) new.cached
-  pub called : behind.calls ≤ before.calls + 2
-  pub once : IsAtHand t old → behind.calls ≤ before.calls + 1
+pub record LooksOnce {A : Type 0} (t : ℕ) (result : Result A LayerFault) (v next : TableView) (old new : Seen) : Type 0 where
+  pub looks : LooksUp t v next
+  pub used : NeedsTable t v → (result ≡ Err fault.ReadFault → ⊥) → IsCached (t / 256) next.cached
+  pub called : new.calls ≤ old.calls + 2
+  pub once : IsAtHand t v → new.calls ≤ old.calls + 1
 
 -- nothing was changed, and only a fault of reading was counted
 pub record OnlyReads {A : Type 0} (result : Result A LayerFault) (old new : Seen) : Type 0 where

@@ -9,7 +9,6 @@ use Rattle.cckd_base.specs.declared.space.Extent.{Extent}
 use Rattle.cckd_space.specs.Plan.{Plan}
 use Rattle.cckd_tables.specs.Staging.{Stages}
 use Rattle.cckd_tables.specs.Commit.{staged_tracks, staged_groups}
-use Rattle.cckd_tables.specs.Tables.{TableView, AreOf}
 use Rattle.cckd_layer.specs.Sits.{IsMarked, Sits}
 use Rattle.cckd_layer.specs.Current.{Current}
 
@@ -42,7 +41,3 @@ pub record Stands (v : LayerView) (slot : ℕ) (w : World) : Type 0 where
 -- it stands, as far as it is told
 abbrev pub StandsIn : LayerView → ℕ → Seen → Type 0
 StandsIn v slot s = Tells s → Stands v slot s.world
-
--- What reading takes: no operation failed half way, and the tables are the file's, as far as it is told.
-abbrev pub IsReadable : TableView → ℕ → Seen → Type 0
-IsReadable tables slot s = Tells s → IsSure s.world × AreOf tables (file_of s.world slot)

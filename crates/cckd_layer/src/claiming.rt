@@ -7,12 +7,13 @@ ghost use Rattle.cckd_shelf.specs.World.{file_of};
 ghost use Rattle.cckd_base.specs.Geometry.{track_count};
 ghost use Rattle.cckd_base.specs.Entry.{bytes_by_entry};
 ghost use Rattle.cckd_space.specs.Plan.{IsNeed, IsSound, place_of};
-ghost use Rattle.cckd_tables.specs.Staging.{IsStaged, IsMoved};
+ghost use Rattle.cckd_tables.specs.Staging.{IsStaged, IsMoved, entry_for};
 ghost use Rattle.cckd_tables.specs.Stages.{free_count};
 ghost use Rattle.cckd_tables.specs.Looking.{HasAlignedTable};
 ghost use Rattle.cckd_layer.specs.Acts.{MayGiveBack, EndsBefore};
 ghost use Rattle.cckd_layer.specs.Current.{claim};
 ghost use Rattle.cckd_layer.specs.Puts.{IsReserved, HasNoRoom};
+ghost use Rattle.cckd_layer.specs.Taken.{ArePlaced, place_found, LeavesTable};
 ghost use Rattle.cckd_layer.specs.Writes.{KeepsMapWith, CanStage, StoresIn, FreesOld, entry_now, claim_of, table_need, claims_of, IsGranted, IsDenied, HaveNoPlaces, with_plan, with_table, with_track};
 
 use crate::layer::Layer;
@@ -88,6 +89,7 @@ impl<U: Unit> Layer<U> {
         ensures staged { self.new ≡ with_table group pos self.old self.new.plan }
         ensures limit { self.new.plan.limit ≡ self.old.plan.limit }
         ensures size { self.new.plan.size ≡ self.old.plan.size }
+        ensures leaves { LeavesTable group (Some pos) self.old self.new.plan }
         ensures free { free_count self.old.tables.stages ≤ free_count self.new.tables.stages + 1 }
         ensures table { HasAlignedTable self.new.tables group }
         ensures map { (claims : List Space_of) (w : Seen) → (HasAlignedTable self.old.tables group → ⊥)
@@ -108,6 +110,7 @@ impl<U: Unit> Layer<U> {
         requires free { IsStaged t.0 self.old.tables.stages ⊎ (0 < free_count self.old.tables.stages) }
         requires table { HasAlignedTable self.old.tables (t.0 / 256) }
         ensures staged { self.new ≡ with_track t.0 entry self.old self.new.plan }
+        ensures frees { FreesOld (entry_for t.0 self.old.tables.stages.entries) pos len self.old.plan self.new.plan }
         ensures limit { self.new.plan.limit ≡ self.old.plan.limit }
         ensures size { self.new.plan.size ≤ self.old.plan.size }
         ensures map { (claims rest : List Space_of) (w : Seen) → CanStage claims rest self.old t.0 entry w
@@ -131,6 +134,7 @@ impl<U: Unit> Layer<U> {
         ensures wanted { IfOk result (λ place. is_some place ≡ wanted) }
         ensures place { IfOk result (λ place. IfSome place (λ pos. pos ≡ place_of 2048 self.old.plan.pieces)) }
         ensures aligned { IfOk result (λ place. IfSome place (λ pos. pos % 8 ≡ 0)) }
+        ensures found { IfOk result (λ place. place ≡ place_found (table_need wanted) self.old.plan.pieces) }
         ensures granted { OnOk result (IsGranted (table_need wanted) self.old.plan self.new.plan) }
         ensures denied { IfErr result (IsDenied (table_need wanted) self.old.plan) }
         ensures same { OnErr result (self.new ≡ self.old) }
@@ -154,6 +158,7 @@ impl<U: Unit> Layer<U> {
         ensures size { self.new.plan.size ≤ max self.old.plan.limit self.old.plan.size }
         ensures map { (claims : List Space_of) (w : Seen) → IfOk result (λ place. KeepsMapWith claims (claim_of need place ++ claims) U.null_bytes self.old self.new w w) }
         ensures wanted { IfOk result (λ place. is_some place ≡ is_some need) }
+        ensures found { IfOk result (λ place. place ≡ place_found need self.old.plan.pieces) }
         ensures granted { OnOk result (IsGranted need self.old.plan self.new.plan) }
         ensures denied { IfErr result (IsDenied need self.old.plan) }
         ensures same { OnErr result (self.new ≡ self.old) }
@@ -196,6 +201,7 @@ impl<U: Unit> Layer<U> {
         ensures table { IfOk result (λ places. is_some places.table ≡ wanted) }
         ensures aligned { IfOk result (λ places. IfSome places.table (λ pos. pos % 8 ≡ 0)) }
         ensures track { IfOk result (λ places. is_some places.track ≡ is_some need) }
+        ensures found { IfOk result (λ places. ArePlaced wanted need places self.old.plan self.new.plan) }
         ensures map { (w : Seen) → IfOk result (λ places. KeepsMapWith [] (claims_of need places) U.null_bytes self.old self.new w w) }
 
         // Where one has no place, the layer agrees with its file as before.

@@ -13,7 +13,8 @@ ghost use Rattle.cckd_layer.specs.Marks.{WritesOrSyncs};
 ghost use Rattle.cckd_layer.specs.Mounted.{CanRead};
 ghost use Rattle.cckd_layer.specs.Writes.{KeepsMap, StopsWithin, StopHolds, StaysClosed, Agrees, IsSettled, IsSameFile, IsOutside, CountsLayer, closed_layer, failed_by, is_broken_by};
 ghost use Rattle.cckd_layer.specs.Closed.{IsClosed};
-ghost use Rattle.cckd_layer.specs.Chain.{chained, roomy_from, closed_second, closed_header, IsClosingAs, IsClosedFrom};
+ghost use Rattle.cckd_layer.specs.Chain.{chained, roomy_from, closed_second, closed_header, IsClosingAs, IsClosedFrom, IsEnding};
+ghost use Rattle.cckd_layer.specs.Headed.{ClosesLast};
 
 use crate::chaining::put_chain;
 use crate::hardening::fault_of;
@@ -47,6 +48,10 @@ pub fn close_image<S: Shelf>(
     // A stop leaves what it could leave before, but for bytes of Free pieces, and for the second header.
     ensures stopped { StopsLeave slot (IsClosingAs (seen S.Shows shelf.old).world.events slot space.now.pieces space.now.size
         (closed_second (totals_of space.now) header.now.cckd)) (seen S.Shows shelf.old) (seen S.Shows shelf.new) }
+
+    // It leaves the second header over nothing but the whole chain.
+    ensures last { IsSure (seen S.Shows shelf.old).world → StopsLeave slot (IsEnding (seen S.Shows shelf.old).world.events slot space.now.pieces space.now.size order
+        (closed_second (totals_of space.now) header.now.cckd) (file_of (seen S.Shows shelf.old).world slot)) (seen S.Shows shelf.old) (seen S.Shows shelf.new) }
 {
     let closed = close_header(header, space.totals());
     let second = second_header(&closed);
@@ -69,6 +74,8 @@ fn keep_chain<S: Shelf>(
     ensures counts { CountsDevice result (seen S.Shows shelf.old).faults (seen S.Shows shelf.new).faults }
     ensures others { OnlyIn slot (seen S.Shows shelf.old) (seen S.Shows shelf.new) }
     ensures stopped { StopsLeave slot (IsChained (seen S.Shows shelf.old).world.events slot space.now.pieces space.now.size) (seen S.Shows shelf.old) (seen S.Shows shelf.new) }
+    ensures alone { Tells (seen S.Shows shelf.old) → IsSure (seen S.Shows shelf.old).world
+        → OnOk result (EachOutcome slot (λ file. file ≡ file_of (seen S.Shows shelf.new).world slot) (seen S.Shows shelf.new).world.events) }
 {
     let Ok(()) = put_chain(shelf, slot, space, order) else {
         return Err(Device::Write);
@@ -92,6 +99,7 @@ impl<U: Unit> Layer<U> {
         ensures kind { IfErr result WritesOrSyncs }
         ensures counts { CountsDevice result (seen T.Shows stage.old).faults (seen T.Shows stage.new).faults }
         ensures stopped { StopsWithin U.null_bytes self.old (seen T.Shows stage.old) (seen T.Shows stage.new) }
+        ensures headers { ClosesLast self.old (seen T.Shows stage.old) (seen T.Shows stage.new) }
         ensures others { OnlyIn self.old.slot (seen T.Shows stage.old) (seen T.Shows stage.new) }
     {
         let order = self.tables.layout().order;
@@ -133,6 +141,9 @@ impl<U: Unit> Layer<U> {
 
         // A stop leaves what it could leave before, or the layer's map, or something of both.
         ensures stopped { StopsWithin U.null_bytes self.old (seen T.Shows stage.old) (seen T.Shows stage.new) }
+
+        // So it does with the headers that it left before, until it leaves a closed image.
+        ensures headers { ClosesLast self.old (seen T.Shows stage.old) (seen T.Shows stage.new) }
         ensures others { OnlyIn self.old.slot (seen T.Shows stage.old) (seen T.Shows stage.new) }
     {
         if !self.marked {

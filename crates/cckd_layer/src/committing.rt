@@ -7,6 +7,7 @@ ghost use Rattle.cckd_tables.specs.Device.{CountsDevice};
 ghost use Rattle.cckd_layer.specs.Mounted.{CanRead};
 ghost use Rattle.cckd_layer.specs.Writes.{KeepsMap, StopsWithin, SettlesCommit, IsCommitted, failed_by};
 ghost use Rattle.cckd_layer.specs.Calm.{LeavesFile};
+ghost use Rattle.cckd_layer.specs.Headed.{KeepsHeaders};
 
 use crate::layer::Layer;
 use crate::settling::settle_staged;
@@ -86,6 +87,7 @@ impl<U: Unit> Layer<U> {
         ensures counts { CountsDevice result (seen T.Shows stage.old).faults (seen T.Shows stage.new).faults }
         ensures stopped { StopsWithin U.null_bytes self.old (seen T.Shows stage.old) (seen T.Shows stage.new) }
         ensures leaves { OnOk result (LeavesFile self.old (seen T.Shows stage.old) (seen T.Shows stage.new)) }
+        ensures headers { KeepsHeaders self.old (seen T.Shows stage.old) (seen T.Shows stage.new) }
         ensures others { OnlyIn self.old.slot (seen T.Shows stage.old) (seen T.Shows stage.new) }
     {
         let _layout = self.tables.layout();

@@ -205,6 +205,6 @@ pub fn layers_tied()
     ensures sure { (s : LayerState) (w : World) → Tied s w → IsSure w }
     ensures marked { (s : LayerState) (w : World) → Tied s w → s.marked ≡ true → Agrees s w }
     ensures beside { (s : LayerState) (slot : ℕ) (old new : World) → (slot ≡ s.slot → ⊥) → IsSure new → SparesOthers slot old new → Loose s old → Loose s new }
-    ensures events { (s : LayerState) (v w : World) → v.events ≡ w.events → Loose s v → Loose s w }
+    ensures events { (s : LayerState) (old new : World) → old.events ≡ new.events → Loose s old → Loose s new }
     ensures puts { (s : LayerState) (bytes : List ℕ) (w : World) → Loose s w → Loose s (after_put bytes w) }
 {}

@@ -4,11 +4,14 @@ ghost use Rattle.std.specs.Prelude.{◌≡◌, true, false, Err, IsOk, OnOk, IfE
 ghost use Rattle.cckd_shelf.specs.Seen.{seen, Stays, Makes};
 ghost use Rattle.cckd_shelf.specs.World.{after_sync};
 ghost use Rattle.cckd_shelf.specs.Frame.{OnlyIn};
+ghost use Rattle.cckd_shelf.specs.Outcomes.{IsOutcome};
+ghost use Rattle.cckd_shelf.specs.Stops.{StopsLeave};
 ghost use Rattle.cckd_tables.specs.Device.{CountsDevice};
 ghost use Rattle.cckd_layer.specs.Stands.{nothing_staged};
 ghost use Rattle.cckd_layer.specs.Mounted.{CanRead};
 ghost use Rattle.cckd_layer.specs.Writes.{KeepsMap, StopsWithin, StopHolds, IsReleased, IsSettled, IsSameLayer, IsOutside, CountsLayer, failed_by, fault_of, is_broken_by};
 ghost use Rattle.cckd_layer.specs.Calm.{LeavesFile};
+ghost use Rattle.cckd_layer.specs.Headed.{KeepsHeaders};
 
 use crate::layer::Layer;
 use cckd_base::{LayerFault, Unit};
@@ -36,6 +39,7 @@ impl<U: Unit> Layer<U> {
         ensures failed { IfErr result (λ fault. (fault ≡ Device.Sync) × (self.new ≡ failed_by Device.Sync self.old)) }
         ensures counts { CountsDevice result (seen T.Shows stage.old).faults (seen T.Shows stage.new).faults }
         ensures stopped { StopsWithin U.null_bytes self.old (seen T.Shows stage.old) (seen T.Shows stage.new) }
+        ensures added { StopsLeave self.old.slot (IsOutcome (seen T.Shows stage.old).world.events self.old.slot) (seen T.Shows stage.old) (seen T.Shows stage.new) }
         ensures others { OnlyIn self.old.slot (seen T.Shows stage.old) (seen T.Shows stage.new) }
     {
         let synced = stage.sync(self.slot);
@@ -63,6 +67,7 @@ impl<U: Unit> Layer<U> {
         ensures read { result ≡ Err LayerFault.ReadFault → (self.new ≡ self.old) × Stays (seen T.Shows stage.old) (seen T.Shows stage.new) }
         ensures counts { CountsLayer result (seen T.Shows stage.old).faults (seen T.Shows stage.new).faults }
         ensures stopped { StopsWithin U.null_bytes self.old (seen T.Shows stage.old) (seen T.Shows stage.new) }
+        ensures headers { KeepsHeaders self.old (seen T.Shows stage.old) (seen T.Shows stage.new) }
         ensures others { OnlyIn self.old.slot (seen T.Shows stage.old) (seen T.Shows stage.new) }
     {
         if let Err(fault) = self.commit(stage) {
@@ -95,6 +100,9 @@ impl<U: Unit> Layer<U> {
 
         // A stop leaves what it could leave before, or the layer's map, or something of both.
         ensures stopped { StopsWithin U.null_bytes self.old (seen T.Shows stage.old) (seen T.Shows stage.new) }
+
+        // So it does with the headers that it left before; and where nothing was to be done, nothing else than it left before.
+        ensures headers { KeepsHeaders self.old (seen T.Shows stage.old) (seen T.Shows stage.new) }
         ensures others { OnlyIn self.old.slot (seen T.Shows stage.old) (seen T.Shows stage.new) }
     {
         if self.hardened {

@@ -33,7 +33,8 @@ pub use closing::close_image;
 pub use completing::layers_tied;
 pub use held::Held;
 pub use laws::{
-    closes_stand, commits_stand, marks_stand, puts_stand, releases_stand, stages_stand,
+    closes_stand, commits_stand, fulls_are_justified, images_have_no_misfit, marks_stand,
+    marks_stay, puts_stand, releases_stand, stages_stand,
 };
 pub use layer::Layer;
 pub use looking::geometry_in;

@@ -7,6 +7,7 @@ ghost use Rattle.cckd_layer.specs.Marks.{WritesOrSyncs};
 ghost use Rattle.cckd_base.specs.declared.space.Extent.{Extent as Space_of};
 ghost use Rattle.cckd_tables.specs.Device.{CountsDevice};
 ghost use Rattle.cckd_layer.specs.Writes.{AgreesWith, KeepsMapWith, StopsWithinWith, marked_layer, failed_by};
+ghost use Rattle.cckd_layer.specs.Headed.{KeepsMarkWith};
 
 use crate::layer::Layer;
 use crate::marking::{open_header, put_second, second_header};
@@ -25,6 +26,7 @@ impl<U: Unit> Layer<U> {
         ensures kind { IfErr result WritesOrSyncs }
         ensures counts { CountsDevice result (seen T.Shows stage.old).faults (seen T.Shows stage.new).faults }
         ensures stopped { (claims : List Space_of) → StopsWithinWith claims U.null_bytes self.old (seen T.Shows stage.old) (seen T.Shows stage.new) }
+        ensures marks { (claims : List Space_of) → KeepsMarkWith claims self.old (seen T.Shows stage.old) (seen T.Shows stage.new) }
         ensures others { OnlyIn self.old.slot (seen T.Shows stage.old) (seen T.Shows stage.new) }
     {
         let opened = open_header(&self.header);
@@ -54,6 +56,7 @@ impl<U: Unit> Layer<U> {
         ensures kind { IfErr result WritesOrSyncs }
         ensures counts { CountsDevice result (seen T.Shows stage.old).faults (seen T.Shows stage.new).faults }
         ensures stopped { (claims : List Space_of) → StopsWithinWith claims U.null_bytes self.old (seen T.Shows stage.old) (seen T.Shows stage.new) }
+        ensures marks { (claims : List Space_of) → KeepsMarkWith claims self.old (seen T.Shows stage.old) (seen T.Shows stage.new) }
         ensures others { OnlyIn self.old.slot (seen T.Shows stage.old) (seen T.Shows stage.new) }
     {
         if self.marked {

@@ -12,9 +12,11 @@ ghost use Rattle.cckd_tables.specs.Stages.{free_count};
 ghost use Rattle.cckd_tables.specs.Looking.{HasAlignedTable, with_cached};
 ghost use Rattle.cckd_layer.specs.Mounted.{CanRead, IsRoomy, with_tables};
 ghost use Rattle.cckd_layer.specs.Reads.{OfFile, OnlyReads, LooksUp, IsAtHand};
-ghost use Rattle.cckd_layer.specs.Writes.{Agrees, AgreesWith, AgreesIn, KeepsMap, KeepsMapWith, IsAct, IsSettled, CountsLayer, IsOutside, HaveNoPlaces, entry_now, claims_of, is_broken_by, with_plan};
+ghost use Rattle.cckd_layer.specs.Writes.{Agrees, AgreesWith, AgreesIn, KeepsMap, KeepsMapWith, IsAct, IsCommitted, IsSettled, CountsLayer, IsOutside, HaveNoPlaces, entry_now, claims_of, is_broken_by, with_plan};
 ghost use Rattle.cckd_layer.specs.Preparing.{HasNoneToFree, IsRoom, SuitsFile, IsDenial, IsDeniedFor, IsNoRoomIn, IsUnplaced, IsUnwritten, IsUntouched, FindsRoom};
 ghost use Rattle.cckd_layer.specs.Calm.{KeepsUnharmed};
+ghost use Rattle.cckd_layer.specs.Taken.{FindsPlaces, TakesPlaces};
+ghost use Rattle.cckd_layer.specs.Headed.{KeepsHeaders, StaysSteady};
 
 use crate::claiming::Places;
 use crate::hardening::fault_of;
@@ -79,9 +81,12 @@ impl<U: Unit> Layer<U> {
         requires can_read { CanRead self.old (seen T.Shows stage.old) }
         ensures free { OnOk result (2 ≤ free_count self.new.tables.stages) }
         ensures still { 2 ≤ free_count self.old.tables.stages → IsOk result × (self.new ≡ self.old) × (seen T.Shows stage.new ≡ seen T.Shows stage.old) }
+        ensures few { free_count self.old.tables.stages < 2 → OnOk result (IsCommitted self.old self.new) }
         ensures map { OnOk result (KeepsMap U.null_bytes self.old self.new (seen T.Shows stage.old) (seen T.Shows stage.new)) }
         ensures marked { OnOk result (self.new.marked ≡ self.old.marked) }
         ensures act { IsAct [] U.null_bytes self.old self.new (seen T.Shows stage.old) (seen T.Shows stage.new) }
+        ensures headers { KeepsHeaders self.old (seen T.Shows stage.old) (seen T.Shows stage.new) }
+        ensures steady { OnOk result (StaysSteady self.old self.new (seen T.Shows stage.old)) }
         ensures confined { StaysInRoom self.old self.new }
         ensures broken { self.new.broken ≡ is_broken_by result }
         ensures read { result ≡ Err LayerFault.ReadFault → (self.new ≡ self.old) × Stays (seen T.Shows stage.old) (seen T.Shows stage.new) }
@@ -134,6 +139,8 @@ impl<U: Unit> Layer<U> {
         ensures suits { Tells (seen T.Shows stage.old) → Agrees self.old (seen T.Shows stage.old).world
             → IfOk result (λ room. SuitsFile self.new t.0 room (seen T.Shows stage.new).world) }
         ensures map { IfOk result (λ room. KeepsMapWith [] (claims_of need room.places) U.null_bytes self.old self.new (seen T.Shows stage.old) (seen T.Shows stage.new)) }
+        ensures found { Tells (seen T.Shows stage.old) → Agrees self.old (seen T.Shows stage.old).world
+            → IfOk result (λ room. FindsPlaces self.old t.0 need room.places self.new.plan) }
         ensures kept { OnErr result (KeepsMap U.null_bytes self.old self.new (seen T.Shows stage.old) (seen T.Shows stage.new)) }
         ensures full { Tells (seen T.Shows stage.old) → Agrees self.old (seen T.Shows stage.old).world → IfErr result (IsDeniedFor self.old t.0 need) }
         ensures kind { IfErr result IsDenial }
@@ -176,6 +183,8 @@ impl<U: Unit> Layer<U> {
         ensures suits { Tells (seen T.Shows stage.old) → Agrees self.old (seen T.Shows stage.old).world
             → IfOk result (λ room. SuitsFile self.new t.0 room (seen T.Shows stage.new).world) }
         ensures map { IfOk result (λ room. KeepsMapWith [] (claims_of need room.places) U.null_bytes self.old self.new (seen T.Shows stage.old) (seen T.Shows stage.new)) }
+        ensures found { Tells (seen T.Shows stage.old) → Agrees self.old (seen T.Shows stage.old).world
+            → IfOk result (λ room. FindsPlaces self.old t.0 need room.places self.new.plan) }
         ensures kept { OnErr result (KeepsMap U.null_bytes self.old self.new (seen T.Shows stage.old) (seen T.Shows stage.new)) }
         ensures full { IsSettled self.old → IfErr result (IsNoRoomIn self.old self.new (seen T.Shows stage.old) (seen T.Shows stage.new) t.0 need) }
         ensures kind { IfErr result IsDenial }
@@ -216,6 +225,8 @@ impl<U: Unit> Layer<U> {
         ensures suits { Tells (seen T.Shows stage.old) → Agrees self.old (seen T.Shows stage.old).world
             → IfOk result (λ o. IfSome o (λ room. SuitsFile self.new t.0 room (seen T.Shows stage.new).world)) }
         ensures map { IfOk result (λ o. IfSome o (λ room. KeepsMapWith [] (claims_of need room.places) U.null_bytes self.old self.new (seen T.Shows stage.old) (seen T.Shows stage.new))) }
+        ensures found { Tells (seen T.Shows stage.old) → Agrees self.old (seen T.Shows stage.old).world
+            → IfOk result (λ o. IfSome o (λ room. FindsPlaces self.old t.0 need room.places self.new.plan)) }
         ensures kept { IsUnplaced result → KeepsMap U.null_bytes self.old self.new (seen T.Shows stage.old) (seen T.Shows stage.new) }
         ensures full { IfErr result (IsNoRoomIn self.old self.new (seen T.Shows stage.old) (seen T.Shows stage.new) t.0 need) }
         ensures kind { IfErr result IsDenial }
@@ -261,11 +272,15 @@ impl<U: Unit> Layer<U> {
         ensures suits { Tells (seen T.Shows stage.old) → Agrees self.old (seen T.Shows stage.old).world
             → IfOk result (λ room. SuitsFile self.new t.0 room (seen T.Shows stage.new).world) }
         ensures map { IfOk result (λ room. KeepsMapWith [] (claims_of need room.places) U.null_bytes self.old self.new (seen T.Shows stage.old) (seen T.Shows stage.new)) }
+        ensures takes { Tells (seen T.Shows stage.old) → Agrees self.old (seen T.Shows stage.old).world
+            → IfOk result (λ room. TakesPlaces U.null_bytes self.old self.new t.0 need room.places (seen T.Shows stage.old) (seen T.Shows stage.new)) }
         ensures kept { IfErr result (λ why. IsDenial why → KeepsMap U.null_bytes self.old self.new (seen T.Shows stage.old) (seen T.Shows stage.new)) }
         ensures unharmed { IfErr result (λ why. IsDenial why → KeepsUnharmed self.old self.new (seen T.Shows stage.old) (seen T.Shows stage.new)) }
         ensures full { IfErr result (IsNoRoomIn self.old self.new (seen T.Shows stage.old) (seen T.Shows stage.new) t.0 need) }
         ensures kind { IfErr result IsUnwritten }
         ensures act { IsAct [] U.null_bytes self.old self.new (seen T.Shows stage.old) (seen T.Shows stage.new) }
+        ensures headers { KeepsHeaders self.old (seen T.Shows stage.old) (seen T.Shows stage.new) }
+        ensures steady { OnOk result (StaysSteady self.old self.new (seen T.Shows stage.old)) }
         ensures confined { StaysInRoom self.old self.new }
         ensures broken { self.new.broken ≡ is_broken_by result }
         ensures counts { CountsLayer result (seen T.Shows stage.old).faults (seen T.Shows stage.new).faults }

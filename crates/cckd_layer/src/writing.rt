@@ -15,7 +15,7 @@ ghost use Rattle.cckd_space.specs.Plan.{IsNeed};
 ghost use Rattle.cckd_tables.specs.Device.{CountsDevice};
 ghost use Rattle.cckd_tables.specs.Staging.{IsStaged};
 ghost use Rattle.cckd_tables.specs.Stages.{free_count};
-ghost use Rattle.cckd_tables.specs.Looking.{HasAlignedTable};
+ghost use Rattle.cckd_tables.specs.Looking.{HasAlignedTable, with_stages};
 ghost use Rattle.cckd_layer.specs.Current.{claim, IsAmong};
 ghost use Rattle.cckd_layer.specs.Writes.{Agrees, AgreesIn, AgreesWith, KeepsMap, KeepsMapWith, StopsWithin, StopsWithinWith, IsAct, IsPut, IsSameFile, AgreesAgainWith, CanStage, StoresIn, CountsLayer, claim_of, entry_now, failed_by, is_broken_by};
 ghost use Rattle.cckd_layer.specs.Storing.{stored_as, padded, need_of, entry_of_stored, IsStoredOf, IsPutTo, IsClaimed, IsOneWrite, HasRoomFor, IsMarkedFrom, CanPlace, IsPrepared, IsStoreRefusal, IsWriteRefusal, IsHarmless, StoresTrack, breaks};
@@ -23,6 +23,8 @@ ghost use Rattle.cckd_base.specs.declared.fault.TrackFault.{TrackFault as Fault_
 ghost use Rattle.cckd_layer.specs.Preparing.{HasNoneToFree, IsRoom, IsDenial, IsUndone};
 ghost use Rattle.cckd_layer.specs.Marks.{WritesOrSyncs};
 ghost use Rattle.cckd_layer.specs.Calm.{KeepsUnharmed};
+ghost use Rattle.cckd_layer.specs.Taken.{LeavesTable, StagesPlaces, IsTaken, PlacesTrack, staged_table};
+ghost use Rattle.cckd_layer.specs.Headed.{KeepsHeadersWith, KeepsHeaders, StaysSteady, KeepsMarkWith, KeepsMark};
 
 use crate::hardening::fault_of;
 use crate::layer::Layer;
@@ -117,6 +119,7 @@ impl<U: Unit> Layer<U> {
         ensures counts { CountsDevice result (seen T.Shows stage.old).faults (seen T.Shows stage.new).faults }
         ensures stopped { (claims : List Space_of) → IsAmong (claim pos (aligned_up (length bytes.now))) claims
             → StopsWithinWith claims U.null_bytes self.old (seen T.Shows stage.old) (seen T.Shows stage.new) }
+        ensures headers { (claims : List Space_of) → IsAmong (claim pos (aligned_up (length bytes.now))) claims → KeepsHeadersWith claims self.old (seen T.Shows stage.old) (seen T.Shows stage.new) }
         ensures others { OnlyIn self.old.slot (seen T.Shows stage.old) (seen T.Shows stage.new) }
         ensures alone { IsOneWrite self.old.slot (padded (stored_as U.value form bytes.now)) (seen T.Shows stage.old) (seen T.Shows stage.new) }
     {
@@ -248,6 +251,7 @@ impl<U: Unit> Layer<U> {
             → OnOk result (IsPutTo place (stored_as U.value form bytes.now) (file_of (seen T.Shows stage.old).world self.old.slot) (file_of (seen T.Shows stage.new).world self.old.slot)) }
         ensures act { (claims : List Space_of) → IsClaimed place (aligned_up (length bytes.now)) claims
             → IsAct claims U.null_bytes self.old self.new (seen T.Shows stage.old) (seen T.Shows stage.new) }
+        ensures marks { (claims : List Space_of) → IsClaimed place (aligned_up (length bytes.now)) claims → KeepsMarkWith claims self.old (seen T.Shows stage.old) (seen T.Shows stage.new) }
         ensures confined { StaysInRoom self.old self.new }
         ensures broken { self.old.broken ≡ false → self.new.broken ≡ breaks result }
         ensures kind { IfErr result WritesOrSyncs }
@@ -275,6 +279,8 @@ impl<U: Unit> Layer<U> {
         ensures free { 0 < free_count self.new.tables.stages }
         ensures has { HasAlignedTable self.new.tables (t.0 / 256) }
         ensures entries { self.new.tables.stages.entries ≡ self.old.tables.stages.entries }
+        ensures tables { self.new.tables ≡ with_stages self.old.tables (staged_table (t.0 / 256) table self.old.tables.stages) }
+        ensures leaves { LeavesTable (t.0 / 256) table self.old self.new.plan }
         ensures can { (claims : List Space_of) (pos len : ℕ) (e : Entry_of) (w : Seen) → CanPlace claims self.old t.0 pos table e len w → Tells w → CanStage claims [] self.new t.0 e w }
         ensures map { (claims : List Space_of) (pos len : ℕ) (e : Entry_of) (w : Seen) → CanPlace claims self.old t.0 pos table e len w → Tells w
             → AgreesAgainWith claims U.null_bytes self.old self.new w w }
@@ -294,6 +300,7 @@ impl<U: Unit> Layer<U> {
         ensures rest { self.new ≡ record self.old { tables = self.new.tables; plan = self.new.plan; hardened = false } }
         ensures same { IsSameFile self.old self.new }
         ensures confined { AddsInRoom (t.0 / 256) self.old self.new }
+        ensures stages { StagesPlaces self.old self.new t.0 old table entry len }
         ensures map { (claims : List Space_of) (w : Seen) → CanPlace claims self.old t.0 old table entry len w → Tells w
             → StoresIn [] U.null_bytes self.old self.new t.0 (bytes_by_entry U.null_bytes self.old.tables.layout (file_of w.world self.old.slot) t.0 entry) w w }
     {
@@ -320,10 +327,14 @@ impl<U: Unit> Layer<U> {
         ensures long { OnOk result (length (stored_as U.value form bytes.now) ≡ length bytes.now) }
         ensures prepared { Tells (seen T.Shows stage.old) → Agrees self.old (seen T.Shows stage.old).world
             → IfOk result (IsPrepared U.null_bytes self.old self.new t.0 (seen T.Shows stage.old) (seen T.Shows stage.new)) }
+        ensures taken { Tells (seen T.Shows stage.old) → Agrees self.old (seen T.Shows stage.old).world
+            → IfOk result (λ p. IsTaken U.null_bytes self.old self.new t.0 (need_of p.stored) p.room.places (seen T.Shows stage.old) (seen T.Shows stage.new)) }
         ensures kept { IfErr result (λ why. IsDenial why → KeepsMap U.null_bytes self.old self.new (seen T.Shows stage.old) (seen T.Shows stage.new)) }
         ensures unharmed { IfErr result (λ why. IsDenial why → KeepsUnharmed self.old self.new (seen T.Shows stage.old) (seen T.Shows stage.new)) }
         ensures refusal { IfErr result (IsStoreRefusal U.null_bytes self.old self.new (seen T.Shows stage.old) (seen T.Shows stage.new) t.0 (stored_as U.value form bytes.now)) }
         ensures act { IsAct [] U.null_bytes self.old self.new (seen T.Shows stage.old) (seen T.Shows stage.new) }
+        ensures headers { KeepsHeaders self.old (seen T.Shows stage.old) (seen T.Shows stage.new) }
+        ensures steady { OnOk result (StaysSteady self.old self.new (seen T.Shows stage.old)) }
         ensures confined { StaysInRoom self.old self.new }
         ensures broken { self.new.broken ≡ is_broken_by result }
         ensures counts { CountsLayer result (seen T.Shows stage.old).faults (seen T.Shows stage.new).faults }
@@ -359,6 +370,7 @@ impl<U: Unit> Layer<U> {
         requires short { length bytes.now ≤ 65528 }
         requires agrees { AgreesIn self.old (seen T.Shows stage.old) }
         ensures stores { OnOk result (StoresTrack U.null_bytes self.old self.new t.0 (stored_as U.value form bytes.now) (seen T.Shows stage.old) (seen T.Shows stage.new)) }
+        ensures placed { OnOk result (PlacesTrack U.null_bytes self.old self.new t.0 (stored_as U.value form bytes.now) (seen T.Shows stage.old) (seen T.Shows stage.new)) }
         ensures marked { OnOk result (self.new.marked ≡ true) }
         ensures grows { OnOk result (AddsInRoom (t.0 / 256) self.old self.new) }
         ensures stays { IfErr result (λ why. IsDenial why → StaysInRoom self.old self.new) }
@@ -366,6 +378,7 @@ impl<U: Unit> Layer<U> {
         ensures unharmed { IfErr result (λ why. IsDenial why → KeepsUnharmed self.old self.new (seen T.Shows stage.old) (seen T.Shows stage.new)) }
         ensures refusal { IfErr result (IsStoreRefusal U.null_bytes self.old self.new (seen T.Shows stage.old) (seen T.Shows stage.new) t.0 (stored_as U.value form bytes.now)) }
         ensures act { IsAct [] U.null_bytes self.old self.new (seen T.Shows stage.old) (seen T.Shows stage.new) }
+        ensures marks { KeepsMark self.old (seen T.Shows stage.old) (seen T.Shows stage.new) }
         ensures broken { self.new.broken ≡ is_broken_by result }
         ensures counts { CountsLayer result (seen T.Shows stage.old).faults (seen T.Shows stage.new).faults }
         ensures still { 2 ≤ free_count self.old.tables.stages → HasNoneToFree self.old.plan → 4 ≤ self.old.plan.spare
@@ -403,6 +416,7 @@ impl<U: Unit> Layer<U> {
 
         // At Ok the layer has these bytes of the track, and of each other one those that it had.
         ensures stores { OnOk result (StoresTrack U.null_bytes self.old self.new t.0 bytes.now (seen T.Shows stage.old) (seen T.Shows stage.new)) }
+        ensures placed { OnOk result (PlacesTrack U.null_bytes self.old self.new t.0 bytes.now (seen T.Shows stage.old) (seen T.Shows stage.new)) }
         ensures marked { OnOk result (self.new.marked ≡ true) }
         ensures same { IsSameFile self.old self.new }
 
@@ -412,6 +426,7 @@ impl<U: Unit> Layer<U> {
         ensures grows { OnOk result (AddsInRoom (t.0 / 256) self.old self.new) }
         ensures stays { IfErr result (λ why. IsDenial why → StaysInRoom self.old self.new) }
         ensures kept { IfErr result (λ why. IsDenial why → KeepsMap U.null_bytes self.old self.new (seen T.Shows stage.old) (seen T.Shows stage.new)) }
+        ensures unharmed { IfErr result (λ why. IsDenial why → KeepsUnharmed self.old self.new (seen T.Shows stage.old) (seen T.Shows stage.new)) }
         ensures still { 2 ≤ free_count self.old.tables.stages → HasNoneToFree self.old.plan → 4 ≤ self.old.plan.spare
             → IfErr result (λ why. IsDenial why → IsUndone self.old self.new (seen T.Shows stage.old) (seen T.Shows stage.new)) }
         ensures broken { self.new.broken ≡ is_broken_by result }
@@ -419,6 +434,10 @@ impl<U: Unit> Layer<U> {
 
         // At each operation a stop leaves what it could leave before, or the layer's map as it was, or something of both.
         ensures stopped { StopsWithin U.null_bytes self.old (seen T.Shows stage.old) (seen T.Shows stage.new) }
+
+        // So it does with the headers that it left before, or with the mark. Until the file is marked it leaves nothing else than it left
+        // before.
+        ensures marks { KeepsMark self.old (seen T.Shows stage.old) (seen T.Shows stage.new) }
         ensures others { OnlyIn self.old.slot (seen T.Shows stage.old) (seen T.Shows stage.new) }
 
         // Once the file is marked, where there are free stages and room, it is one write at most, and no sync.
@@ -442,6 +461,7 @@ impl<U: Unit> Layer<U> {
 
         // At Ok the bytes are a track, and the layer has what they say of it, and of each other one the bytes that it had.
         ensures stores { OnOk result (StoresTrack U.null_bytes self.old self.new t.0 (U.value bytes.now) (seen T.Shows stage.old) (seen T.Shows stage.new)) }
+        ensures placed { OnOk result (PlacesTrack U.null_bytes self.old self.new t.0 (U.value bytes.now) (seen T.Shows stage.old) (seen T.Shows stage.new)) }
         ensures checked { OnOk result (U.fault self.old.tables.layout.geo t.0 bytes.now ≡ None) }
         ensures marked { OnOk result (self.new.marked ≡ true) }
         ensures same { IsSameFile self.old self.new }
@@ -461,6 +481,10 @@ impl<U: Unit> Layer<U> {
 
         // At each operation a stop leaves what it could leave before, or the layer's map as it was, or something of both.
         ensures stopped { StopsWithin U.null_bytes self.old (seen T.Shows stage.old) (seen T.Shows stage.new) }
+
+        // So it does with the headers that it left before, or with the mark. Until the file is marked it leaves nothing else than it left
+        // before.
+        ensures marks { KeepsMark self.old (seen T.Shows stage.old) (seen T.Shows stage.new) }
         ensures others { OnlyIn self.old.slot (seen T.Shows stage.old) (seen T.Shows stage.new) }
 
         // Once the file is marked, where there are free stages and room, it is one write at most, and no sync.

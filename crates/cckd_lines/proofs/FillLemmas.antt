@@ -1,7 +1,7 @@
 -- What a room has after more of a script was taken.
-use Rattle.std.proofs.Common.{◌≡◌, ℕ, ◌+◌, ◌-◌, ◌<◌, ◌≤◌, true, false, List, [], ◌∷◌, ◌++◌, length, take, drop, refl, sym, ◌∙◌, ap, subst, arith, append_assoc, append-nil, length-append, length-drop}
+use Rattle.std.proofs.Common.{◌≡◌, ℕ, ◌+◌, ◌-◌, ◌<◌, ◌≤◌, true, false, List, [], ◌∷◌, ◌++◌, length, take, drop, sym, ◌∙◌, ap, subst, arith, append_assoc, append-nil, length-append, length-drop}
 use Rattle.std.proofs.lemmas.List.{take-append-drop, length-take-le, drop-drop, drop-take, take-take}
-use Rattle.std.proofs.Math.Seq.{take-append_seam, drop-append-add}
+use Rattle.std.proofs.Math.Seq.{take-append_seam}
 use borrow.Rule.Slice.PartMut.{put_mid}
 use Rattle.cckd_shelf.specs.declared.fault.Faults.{Faults}
 use Rattle.cckd_shelf.specs.World.{World}
@@ -9,7 +9,7 @@ use Rattle.cckd_lines.specs.declared.lines.Place.{Place}
 use Rattle.cckd_lines.specs.declared.lines.Next.TheVariants as next
 use Rattle.cckd_script.specs.Lines.{HasNoFeed}
 use Rattle.cckd_script.proofs.LineLemmas.{no_feed-append}
-use Rattle.cckd_lines.specs.Lines.{OnlyTakes, held, IsFirstFeed, fed, last, Passes, IsPlace, IsAtEnd, Grows, TakesMore, BreaksOff, pending}
+use Rattle.cckd_lines.specs.Lines.{OnlyTakes, held, IsFirstFeed, fed, last, Passes, IsPlace, IsAtEnd, Grows, TakesMore, pending}
 use Rattle.cckd_lines.proofs.FeedLemmas.{put_behind}
 
 pub only_takes_twice : (a b c : World) → OnlyTakes a b → OnlyTakes b c → OnlyTakes a c
@@ -203,40 +203,3 @@ module _ (tells : Type 0) (old now then : World) (before after later : Faults) (
             left,
           ),
         )
-
--- nothing of a line was passed yet
-pub passes_none : (tells : Type 0) (w : World) (f : Faults) (place : Place) → place.ended ≡ false
-    → IsPassing tells w w f f place place
-passes_none tells w f place going = record {
-  piece = λ told. ([], tt, refl, omega arith);
-  going_on = going;
-  left = omega arith;
-  only = λ told. record { files = refl; events = refl };
-  quiet = refl;
-}
-
--- the limit is met in a line that is passed
-pub passes_limit : (tells : Type 0) (old now then : World) (before after later : Faults) (first place : Place) (room : List ℕ)
-    → IsPassing tells old now before after first place → place.left ≡ 0 → (tells → 0 < length now.script)
-    → (tells → then.script ≡ drop 1 now.script)
-    → tells → (behind : Place) → behind.end ≤ behind.start → Passes first.left old.script (held room behind then.script) next.ScriptTooLong
-passes_limit tells old now then before after later first place room so_far none more one told behind empty =
-    let p = so_far.piece told in
-    let all : first.left ≡ length p.0 = omega (arith, p.3, none) in (
-      subst HasNoFeed (sym (ap (λ (n : ℕ). take n old.script) all ∙ ap (take (length p.0)) p.2 ∙ take-append_seam p.0 now.script)) p.1,
-      omega (arith, all, ap length p.2, length-append p.0 now.script, more told),
-      ap (λ (s : List ℕ). s ++ then.script) (none_pending room behind empty) ∙ one told
-          ∙ sym (ap (λ (n : ℕ). drop (n + 1) old.script) all ∙ ap (drop (length p.0 + 1)) p.2 ∙ drop-append-add p.0 now.script 1),
-      empty,
-    )
-
--- the source fails in a line that is passed
-pub passes_broken : (tells : Type 0) (old now then : World) (before after : Faults) (first place : Place)
-    → IsPassing tells old now before after first place → (tells → then ≡ now) → tells → BreaksOff first.left old.script then.script
-passes_broken tells old now then before after first place so_far kept told =
-    let p = so_far.piece told in (
-      p.0,
-      p.1,
-      p.2 ∙ ap (λ (w : World). p.0 ++ w.script) (sym (kept told)),
-      omega (arith, p.3),
-    )

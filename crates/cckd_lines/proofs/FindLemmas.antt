@@ -24,19 +24,6 @@ pub record IsFilling (tells : Type 0) (old now : World) (before after : Faults) 
   pub quiet : after ≡ before
   pub long : length room ≡ length begun
 
-pub fills_none : (tells : Type 0) (w : World) (f : Faults) (place : Place) (room : List ℕ) → IsPlace room place
-    → (tells → IsAtEnd place w.script) → IsFilling tells w w f f place place room room
-fills_none tells w f at room is ended_there = record {
-  within = is;
-  same = λ told. refl;
-  shared = refl;
-  ended = ended_there;
-  going_on = λ e. e;
-  only = λ told. record { files = refl; events = refl };
-  quiet = refl;
-  long = refl;
-}
-
 module _ (tells : Type 0) (old now : World) (before after : Faults) (first place : Place) (begun room : List ℕ)
     (so_far : IsFilling tells old now before after first place begun room)
   where

@@ -1,4 +1,3 @@
-pub mod CountLemmas
 pub mod FileLemmas
 pub mod HistoryLemmas
 pub mod ImageLemmas

@@ -168,17 +168,6 @@ stored_change files new ps es more slot bytes h low puts named bound changed =
       ];
     }
 
--- an event that changes no file
-pub stored_quiet : (files : List ℕ → Option (List ℕ)) (ps : List Place) (es more : List Event) → IsStored files ps es
-    → ((k : ℕ) → name_of more k ≡ name_of es k) → ((name : List ℕ) → was_bound more name ≡ was_bound es name) → ((name : Name) → held_now more name ≡ held_now es name)
-    → IsStored files ps more
-stored_quiet files ps es more h named bound same = record {
-  nine = h.nine;
-  names = λ k. h.names k ∙ sym (named k);
-  named = λ name k. h.named name (sym (bound name) ∙ k) ∙ sym (same (Named name));
-  nameless = λ k none. h.nameless k none ∙ sym (same (Nameless k));
-}
-
 -- what is done to a slot's own file, said of the file of any name
 own_file : (f : List ℕ → List ℕ) (es : List Event) (slot : ℕ) (name : Name)
     → cond (is_about es slot name) (f (held_now es name)) (held_now es name) ≡ cond (is_about es slot name) (f (file_now es slot)) (held_now es name)

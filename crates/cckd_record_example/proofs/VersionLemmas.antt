@@ -1,9 +1,6 @@
 -- Versions in a row, one more at a time.
 use Rattle.std.proofs.Common.{◌≡◌, ◌⊎◌, ℕ, zero, suc, ◌+◌, ◌<◌, ◌≤◌, List, [], ◌∷◌, length, take, get_or, refl, sym, ◌∙◌, ap, subst, inl, inr, arith}
 use Rattle.std.proofs.lemmas.List.{take_all}
-use Rattle.cckd_shelf.specs.declared.fault.Faults.{Faults}
-use Rattle.cckd_shelf.specs.declared.fault.Kind.TheVariants.{Writes, Syncs}
-use Rattle.cckd_shelf.specs.Faults.{Raises}
 use Rattle.cckd_shelf.specs.Seen.{Seen, Tells}
 use Rattle.cckd_shelf.specs.Frame.{OnlyIn}
 use Rattle.cckd_shelf.specs.Stops.{StopLeaves, StopsLeave}
@@ -11,7 +8,7 @@ use Rattle.cckd_shelf.specs.Outcomes.{EachOutcome}
 use Rattle.cckd_shelf.proofs.MomentLemmas.{at_once, joins, weaker}
 use Rattle.cckd_shelf.proofs.FrameLemmas.{spares_nothing, only_twice}
 use Rattle.cckd_record_example.specs.declared.updating.Version.{Version}
-use Rattle.cckd_record_example.specs.Records.{Shows, ShowsEither, LieApart, HasCause}
+use Rattle.cckd_record_example.specs.Records.{Shows, ShowsEither, LieApart}
 use Rattle.cckd_record_example.specs.Versions.{AreInTurn, ShowsOne, last_place, last_value}
 
 -- the next one is apart from the value that is there
@@ -98,7 +95,3 @@ pub done_all : (slot : ℕ) (vs : List Version) (i : ℕ) (start now : Seen) →
     → (place : ℕ) (old : List ℕ) → AreInTurn place vs → StopLeaves slot (Shows place old) start → StopLeaves slot (Shows (last_place place vs) (last_value old vs)) now
 done_all slot vs i start now h end place old turn each =
     subst (λ (us : List Version). StopLeaves slot (Shows (last_place place us) (last_value old us)) now) (take_all i vs end) (h.reached place old turn each)
-
--- a fault behind calls that were Ok
-pub cause_behind : (start now next : Seen) → now.faults ≡ start.faults → HasCause now next → HasCause start next
-cause_behind start now next e h = subst (λ (f : Faults). Raises Writes f next.faults ⊎ Raises Syncs f next.faults) e h

@@ -7,5 +7,5 @@ mod storing;
 mod tests;
 mod updating;
 
-pub use storing::store;
+pub use storing::{make_stay, store};
 pub use updating::{Version, update, update_all};

@@ -1,7 +1,6 @@
 //! Bytes that stay at the front of a named file.
 ghost use Rattle.std.specs.Prelude.{◌<◌, ◌^◌, length, OnOk, OnErr};
-ghost use Rattle.cckd_shelf.specs.Seen.{seen, Fails};
-ghost use Rattle.cckd_shelf.specs.declared.fault.Kind.TheVariants.{Syncs};
+ghost use Rattle.cckd_shelf.specs.Seen.{seen};
 ghost use Rattle.cckd_shelf.specs.Stops.{StopLeaves, StopLeavesHeld};
 ghost use Rattle.cckd_record_example.specs.Records.{BeginsWith, HasName, HasStoreCause, KeepsCounts};
 
@@ -25,11 +24,12 @@ pub fn store<S: Shelf>(shelf: &mut S, slot: Slot, name: &str, bytes: &[u8]) -> R
 
 /// Makes all stay that was written to the slot's file, which has this name. To bind the slot to another name and
 /// back would not.
-fn make_stay<S: Shelf>(shelf: &mut S, slot: Slot, name: &str) -> Result<(), Failed>
+pub fn make_stay<S: Shelf>(shelf: &mut S, slot: Slot, name: &str) -> Result<(), Failed>
     requires { HasName slot name.now (seen S.Shows shelf.old) }
     ensures stays { OnOk result (StopLeavesHeld slot (seen S.Shows shelf.old) (seen S.Shows shelf.new)) }
     ensures named { OnOk result (HasName slot name.now (seen S.Shows shelf.new)) }
-    ensures fails { Fails Syncs result (seen S.Shows shelf.old) (seen S.Shows shelf.new) }
+    ensures cause { OnErr result (HasStoreCause (seen S.Shows shelf.old) (seen S.Shows shelf.new)) }
+    ensures still { OnOk result (KeepsCounts (seen S.Shows shelf.old) (seen S.Shows shelf.new)) }
 {
     shelf.sync(slot)
 }

@@ -159,22 +159,6 @@ spelled_from column (kind ∷ kinds) (v ∷ values) (token ∷ rest) fit are =
     ap (λ (o : Option Value). value_before column o (values_of (column + length token + 1) kinds rest)) first
     ∙ ap (value_before column (Some v)) more
 
-none_by : (token : List ℕ) (least most : ℕ) (o : Option ℕ) → ((n : ℕ) → o ≡ Some n → token ≡ decimal n) → most < 2 ^ 32
-    → ((n : ℕ) → n < 2 ^ 32 → ¬ (token ≡ decimal n)) → number_within least most o ≡ None
-none_by token least most None told small none = refl
-none_by token least most (Some n) told small none =
-    ⊎_elim
-    (λ (passes : is_within least most n ≡ true).
-    let range = within_told least most n passes in absurd (none n (omega (arith, range.1)) (told n refl)))
-    (λ (fails : is_within least most n ≡ false). ap (λ (b : Bool). if b then Some (amount n) else None) fails)
-    (cases_Bool (is_within least most n))
-
--- a token that is the spelling of no number is no number
-pub no_number : (least most : ℕ) (token : List ℕ) → most < 2 ^ 32 → ((n : ℕ) → n < 2 ^ 32 → ¬ (token ≡ decimal n))
-    → value_of (number least most) token ≡ None
-no_number least most token small none =
-    none_by token least most (spelled_number token) (decimal_of_number token) small none
-
 -- nor is the spelling of a number out of the range
 pub out_of_range : (least most n : ℕ) (token : List ℕ) → n < 2 ^ 64 → token ≡ decimal n → ¬ ((least ≤ n) × (n ≤ most))
     → value_of (number least most) token ≡ None

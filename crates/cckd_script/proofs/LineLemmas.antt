@@ -1,5 +1,5 @@
 -- The lines of a text and the lines of its parts.
-use Rattle.std.proofs.Common.{◌≡◌, ◌≢◌, inl, inr, ℕ, suc, ◌<◌, ◌==◌, true, false, if◌then◌else◌, List, [], ◌∷◌, ◌++◌, length, get_or, refl, sym, ◌∙◌, ap, arith, append_assoc, append-nil}
+use Rattle.std.proofs.Common.{◌≡◌, ◌≢◌, inl, inr, ℕ, ◌<◌, ◌==◌, true, false, if◌then◌else◌, List, [], ◌∷◌, ◌++◌, length, refl, sym, ◌∙◌, ap, arith, append_assoc, append-nil}
 use Rattle.std.proofs.lemmas.Bool.Decides.{nat_tests}
 use Rattle.cckd_script.specs.Lines.{begun, led, lines_of, ended_lines, StopsAtLine, HasNoFeed}
 
@@ -112,13 +112,6 @@ lines_first (b ∷ line) rest bare =
     let more = lines_first line rest bare.1 in
     rw other (ap (begun b) more)
 
-pub ended_first : (line rest : List ℕ) → HasNoFeed line → ended_lines (line ++ 10 ∷ rest) ≡ line ∷ ended_lines rest
-ended_first [] rest bare = refl
-ended_first (b ∷ line) rest bare =
-    let other = test_fails b bare.0 in
-    let more = ended_first line rest bare.1 in
-    rw other (ap (led b) more)
-
 -- a last line without its line feed
 pub lines_last : (line : List ℕ) → HasNoFeed line → 0 < length line → lines_of line ≡ line ∷ []
 lines_last [] bare some = absurd (omega arith)
@@ -134,12 +127,6 @@ ended_last (b ∷ line) bare =
     let other = test_fails b bare.0 in
     let more = ended_last line bare.1 in
     rw other (ap (led b) more)
-
--- a text without a line feed, from what stands at its places
-pub no_feed_by_places : (text : List ℕ) → ((k : ℕ) → k < length text → get_or text k 0 ≢ 10) → HasNoFeed text
-no_feed_by_places [] h = tt
-no_feed_by_places (b ∷ text) h =
-    (h 0 (omega arith), no_feed_by_places text (λ k small. h (suc k) (omega arith)))
 
 pub no_feed-append : (a b : List ℕ) → HasNoFeed a → HasNoFeed b → HasNoFeed (a ++ b)
 no_feed-append [] b h k = k

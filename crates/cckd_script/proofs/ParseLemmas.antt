@@ -7,7 +7,7 @@ use Rattle.cckd_script.specs.declared.tokens.Place.{Place}
 use Rattle.cckd_script.specs.Grammar.{Kind, number, Value, amount, value_of, value_before, values_of}
 use Rattle.cckd_script.specs.Parse.{Request, Form, check_form, asked_by, kinds_behind}
 use Rattle.cckd_script.specs.Inside.{rest_tokens, values_behind, IsBehind, IsNone, IsAddressBehind, coordinate, request_of, AsksFor}
-use Rattle.cckd_script.proofs.TokenLemmas.{behind_place, some_behind, none_behind}
+use Rattle.cckd_script.proofs.TokenLemmas.{behind_place, some_behind}
 
 -- a token of a kind behind a place
 pub token_passes : (line : List ℕ) (end after : ℕ) (kind : Kind) (value : Value) → end < length line → end + 1 ≤ after → after ≤ length line
@@ -35,16 +35,6 @@ token_stops line end after kind inside cut says kinds =
     ap (values_of (end + 2) (kind ∷ kinds)) (behind_place line end inside ∙ cut)
     ∙ ap (λ (o : Option Value). value_before (end + 2) o (values_of (end + 2 + length token + 1) kinds (rest_tokens line after))) says
     ∙ ap (λ (column : ℕ). Err column) place
-
--- a token that is missing
-pub token_missing : (line : List ℕ) (end : ℕ) (kind : Kind) → end ≡ length line → IsNone line end kind (end + 1)
-token_missing line end kind last kinds =
-    let place : end + 2 - 1 ≡ end + 1 = omega arith in
-    ap (values_of (end + 2) (kind ∷ kinds)) (none_behind line end last) ∙ ap (λ (column : ℕ). Err column) place
-
--- nothing behind a place
-pub nothing_more : (line : List ℕ) (end : ℕ) → end ≡ length line → values_behind line end [] ≡ Ok []
-nothing_more line end last = ap (values_of (end + 2) []) (none_behind line end last)
 
 -- a token too many
 pub one_too_many : (line : List ℕ) (end : ℕ) → end < length line → values_behind line end [] ≡ Err (end + 2)
@@ -86,9 +76,3 @@ asks_some form line end asked values e is = sym (ap (asked_by form) e ∙ ap (λ
 -- what is left behind a word of a check is a level
 pub check_kinds : (line : List ℕ) (end : ℕ) → end < length line → kinds_behind check_form (rest_tokens line end) ≡ number 0 3 ∷ []
 check_kinds line end inside = ap (kinds_behind check_form) (some_behind line end inside)
-
--- and behind one that stands alone is nothing
-pub check_alone : (line : List ℕ) (end : ℕ) → end ≡ length line
-    → values_behind line end (kinds_behind check_form (rest_tokens line end)) ≡ Ok []
-check_alone line end last =
-    ap (values_behind line end) (ap (kinds_behind check_form) (none_behind line end last)) ∙ nothing_more line end last

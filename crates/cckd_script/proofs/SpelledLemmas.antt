@@ -373,11 +373,3 @@ spelled line result is request = (
 )
 
 -- ---- for the crates above
-
-level_in : (level : ℕ) (line : List ℕ) → IsCheckLine level line → level ≤ 3
-level_in level line (inl is) = is.0
-level_in level line (inr is) = omega (arith, is.0)
-
--- a check is asked for at one of its levels
-pub level_asked : (line : List ℕ) (level : ℕ) (sent : List ℕ) → parsed line ≡ Ok (one (Check level) sent) → level ≤ 3
-level_asked line level sent e = level_in level line (line_to line (one (Check level) sent) e).1

@@ -14,7 +14,7 @@ use Rattle.cckd_base.specs.declared.reply.Refusal.TheVariants as refusal
 use Rattle.cckd_script.specs.declared.misread.Misreading.{Misreading}
 use Rattle.cckd_script.specs.declared.misread.Misreading.TheVariants as misreading
 use Rattle.cckd_script.specs.Phrase.{Part, number, hex}
-use Rattle.cckd_script.specs.Text.{at_address, call_address, call_record, turn_phrase, refusal_phrase, reply_phrase, reply_text, reply_line, misreading_phrase, misreading_text, misreading_line, CallFits, FaultFits, TurnFits, RefusalFits, ReplyFits, MisreadingFits, IsLine, Entry, answered, misread, EntryFits, entry_text}
+use Rattle.cckd_script.specs.Text.{at_address, call_address, call_record, turn_phrase, refusal_phrase, reply_phrase, reply_text, reply_line, misreading_phrase, misreading_text, misreading_line, CallFits, FaultFits, TurnFits, RefusalFits, ReplyFits, MisreadingFits, IsLine}
 use Rattle.cckd_script.proofs.PlainLemmas.{IsPlain, PartsFit, PhraseFits, feedless_phrase}
 
 -- a number of a type is one of 64 bits
@@ -115,11 +115,6 @@ misreading_is_line why h = record {
   ends = refl;
   bare = feedless_phrase (misreading_phrase why) (misreading_fits why h);
 }
-
--- the line of each entry is one line
-pub entry_is_line : (entry : Entry) → EntryFits entry → IsLine (entry_text entry)
-entry_is_line (answered call given answer bytes) fits = reply_is_line call answer bytes fits.0 fits.1.numbers
-entry_is_line (misread why) fits = misreading_is_line why fits
 
 -- each number of a call is one of its type
 pub call_fits : (call : Call) (at : Addr) (num : ℕ) → at ≡ call_address call → num ≡ call_record call → at.cyl < 2 ^ 16 → at.head < 2 ^ 16

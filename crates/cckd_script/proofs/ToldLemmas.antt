@@ -1,11 +1,11 @@
 -- What is printed for a call determines what was said to it: a text is read back.
-use Rattle.std.proofs.Common.{◌≡◌, ◌≤◌, ℕ, zero, suc, ◌+◌, ◌-◌, ◌*◌, ◌<◌, ◌^◌, ◌==◌, Bool, true, false, ◌&&◌, if◌then◌else◌, List, [], ◌∷◌, ◌++◌, length, take, drop, map, flat_map, replicate, get_or, codes, decimal, Result, refl, sym, ◌∙◌, ap, subst, arith, length-append, length-drop}
+use Rattle.std.proofs.Common.{◌≡◌, ◌≤◌, ℕ, zero, suc, ◌+◌, ◌-◌, ◌*◌, ◌<◌, ◌^◌, ◌==◌, Bool, true, false, ◌&&◌, if◌then◌else◌, List, [], ◌∷◌, ◌++◌, length, take, drop, map, flat_map, replicate, get_or, codes, decimal, Result, refl, sym, ◌∙◌, ap, arith, length-append, length-drop}
 use Rattle.std.specs.List.{AllByRecursion}
 use Rattle.std.specs.Str.{bytes_eq}
 use Rattle.std.specs.Result.{result_unwrap_or}
 use Rattle.std.proofs.lemmas.Bool.Decides.{nat_tests}
 use Rattle.std.proofs.lemmas.Fmt.{decimal_is_IsNumeral}
-use Rattle.std.proofs.lemmas.List.{take-append-drop, length-take-le, take_at, append_cancel_right}
+use Rattle.std.proofs.lemmas.List.{take-append-drop, length-take-le, take_at}
 use Rattle.hex.specs.Hex.{encode_lower, lower_digits, IsBytes, decode_of}
 use Rattle.hex.specs.declared.error.FromHexError.{FromHexError}
 use Rattle.hex.proofs.HexLemmas.{decode_of-encode_lower, length-encode_with}
@@ -19,12 +19,10 @@ use Rattle.cckd_base.specs.declared.reply.Reply.{Reply}
 use Rattle.cckd_base.specs.declared.reply.Reply.TheVariants as reply
 use Rattle.cckd_base.specs.declared.reply.Refusal.{Refusal}
 use Rattle.cckd_base.specs.declared.reply.Refusal.TheVariants as refusal
-use Rattle.cckd_script.specs.declared.misread.Misreading.{Misreading}
 use Rattle.cckd_script.specs.Lines.{tokens}
 use Rattle.cckd_script.specs.Phrase.{number, hex_text}
 use Rattle.cckd_script.specs.Grammar.{number_value}
-use Rattle.cckd_script.specs.Text.{call_address, call_record, turn_phrase, refusal_phrase, reply_phrase, reply_text, FitsCall, CallFits, FaultFits, TurnFits, RefusalFits, ReplyFits, IsAnswer, answered_length, answered_bytes, Entry, answered, misread, EntryFits, entry_text}
-use Rattle.cckd_script.specs.Items.{asked, unread, item_of}
+use Rattle.cckd_script.specs.Text.{call_address, call_record, turn_phrase, refusal_phrase, reply_phrase, reply_text, FitsCall, CallFits, FaultFits, TurnFits, RefusalFits, ReplyFits, IsAnswer, answered_length, answered_bytes}
 use Rattle.cckd_script.proofs.TextLemmas.{reply_fits}
 use Rattle.cckd_script.proofs.PlainLemmas.{part_tokens, phrase_tokens, tokens_of_phrase}
 
@@ -291,29 +289,3 @@ is_answer call input answer buffer fits numbers within values = record {
   values = byte_of_front (answered_length answer) buffer values;
   len = length-take-le (answered_length answer) buffer within;
 }
-
-same_asked : (call other : Call) (given also : List ℕ) → asked call given ≡ asked other also → (call ≡ other) × (given ≡ also)
-same_asked call other given also e = (cc, cc)
-
-same_unread : (why other : Misreading) → unread why ≡ unread other → why ≡ other
-same_unread why other e = cc
-
--- text and item determine what was said
-pub told_entry : (entry other : Entry) → EntryFits entry → EntryFits other → item_of entry ≡ item_of other
-    → entry_text entry ≡ entry_text other → entry ≡ other
-told_entry (answered call given answer bytes) (answered another also reply more) f g same e =
-    let parts = same_asked call another given also same in
-    let fits : IsAnswer call (length given) reply more =
-    subst (λ (c : Call). IsAnswer c (length given) reply more) (sym parts.0)
-    (subst (λ (bs : List ℕ). IsAnswer another (length bs) reply more) (sym parts.1) g.1) in
-    let text : reply_text call answer bytes ≡ reply_text call reply more =
-    append_cancel_right (reply_text call answer bytes) (reply_text another reply more) (10 ∷ []) e
-    ∙ ap (λ (c : Call). reply_text c reply more) (sym parts.0) in
-    let what = told call (length given) answer reply bytes more f.0 f.1 fits text in
-    ap (λ (c : Call). answered c given answer bytes) parts.0
-    ∙ ap (λ (bs : List ℕ). answered another bs answer bytes) parts.1
-    ∙ ap (λ (r : Reply). answered another also r bytes) what.0
-    ∙ ap (answered another also reply) what.1
-told_entry (answered call given answer bytes) (misread why) f g same e = cc same
-told_entry (misread why) (answered call given answer bytes) f g same e = cc same
-told_entry (misread why) (misread other) f g same e = ap misread (same_unread why other same)

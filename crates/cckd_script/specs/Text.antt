@@ -245,11 +245,6 @@ pub data Entry : Type 0 where
   answered : Call → List ℕ → Reply → List ℕ → Entry
   misread : Misreading → Entry
 
--- what may be said to what was asked
-abbrev pub EntryFits : Entry → Type 0
-EntryFits (answered call given answer bytes) = CallFits call × IsAnswer call (length given) answer bytes
-EntryFits (misread why) = MisreadingFits why
-
 -- what was said
 abbrev pub said : Entry → List ℕ
 said (answered call given answer bytes) = reply_text call answer bytes

@@ -5,7 +5,7 @@ use Rattle.std.specs.Str.{bytes_eq}
 use Rattle.std.proofs.lemmas.Bool.{cond-false}
 use Rattle.cckd_shelf.specs.declared.fault.Failed.{Failed}
 use Rattle.cckd_shelf.specs.Files.{overlaid}
-use Rattle.cckd_shelf.specs.Events.{Event, Written, Torn, Cut, HalfCut, Synced, Put, name_of, goes_by, is_about, file_now}
+use Rattle.cckd_shelf.specs.Events.{Event, Written, Torn, Cut, HalfCut, Synced, name_of, goes_by, is_about, file_now}
 use Rattle.cckd_shelf.specs.World.{World, file_of, with_file, with_present, after_write, after_torn, after_cut, after_half_cut, after_sync}
 use Rattle.cckd_shelf.specs.Seen.{Seen, Tells, Stays, Makes, MayMake}
 use Rattle.cckd_shelf.specs.Outcomes.{IsOutcome, EachOutcome, OthersStill, AtEach}
@@ -34,9 +34,6 @@ still_half_cut slot len es other apart = other_half_cut_step (IsOutcome es other
 -- a sync adds no outcome of any slot
 pub still_synced : (slot s : ℕ) (es : List Event) → OthersStill slot es (Synced s ∷ es)
 still_synced slot s es other apart = sync_step (IsOutcome es other) other s es (λ file h. h)
-
-pub still_put : (slot : ℕ) (bytes : List ℕ) (es : List Event) → OthersStill slot es (Put bytes ∷ es)
-still_put slot bytes es other apart file h = h
 
 -- twice in a row
 pub still_twice : (slot : ℕ) (a b c : List Event) → OthersStill slot a b → OthersStill slot b c → OthersStill slot a c

@@ -1,4 +1,3 @@
-pub mod FaultLemmas
 pub mod FrameLemmas
 pub mod MomentLemmas
 pub mod NameLemmas

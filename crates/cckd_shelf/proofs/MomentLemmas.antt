@@ -1,10 +1,10 @@
 -- Laws of "at each operation": stretches of events, and calls of a shelf at Ok and at a failure at once.
-use Rattle.std.proofs.Common.{◌≡◌, ℕ, List, [], ◌∷◌, ◌++◌, take, Result, Ok, Err, OnOk, OnErr, IfOk, refl, sym, ◌∙◌, ap, subst, inl, inr}
+use Rattle.std.proofs.Common.{◌≡◌, ℕ, List, [], ◌∷◌, ◌++◌, take, Result, Ok, Err, OnOk, OnErr, refl, sym, ◌∙◌, ap, subst, inl, inr}
 use Rattle.std.proofs.lemmas.List.{append_assoc, append_cancel_right}
 use Rattle.cckd_shelf.specs.declared.fault.Failed.{Failed}
 use Rattle.cckd_shelf.specs.Files.{overlaid}
-use Rattle.cckd_shelf.specs.Events.{Event, Written, Torn, Cut, HalfCut, Synced, Put}
-use Rattle.cckd_shelf.specs.World.{World, IsSure, file_of, after_write, after_torn, after_cut, after_half_cut, after_sync, after_put}
+use Rattle.cckd_shelf.specs.Events.{Event, Written, Torn, Cut, HalfCut, Synced}
+use Rattle.cckd_shelf.specs.World.{World, IsSure, file_of, after_write, after_torn, after_cut, after_half_cut, after_sync}
 use Rattle.cckd_shelf.specs.Seen.{Seen, Tells, Stays, Makes, MayMake}
 use Rattle.cckd_shelf.specs.Outcomes.{WriteLeaves, EachHeld, EachOutcome, Along, AtEach}
 use Rattle.cckd_shelf.proofs.OutcomeLemmas.{write_step, torn_step, cut_step, half_cut_step, sync_step, sync_settles, sync_leaves_now, held_write}
@@ -131,13 +131,6 @@ then_synced P slot s first old new result ok err told before =
     joins (EachOutcome slot P) first.world.events old.world.events new.world.events before
     (synced P slot s old new result ok err told (at_end (EachOutcome slot P) first.world.events old.world.events before))
 
-pub put_out : (P : List ℕ → Type 0) (slot : ℕ) (bytes : List ℕ) (old new : Seen) (result : Result ℕ Failed)
-    → IfOk result (λ n. Makes (after_put (take n bytes)) old new) → OnErr result (Stays old new) → Tells old → EachOutcome slot P old.world.events
-    → AtEach old.world.events new.world.events (EachOutcome slot P)
-put_out P slot bytes old new (Ok n) ok err told each =
-    next_at (EachOutcome slot P) old.world new.world (Put (take n bytes)) (ap (λ (x : World). x.events) (ok told)) each each
-put_out P slot bytes old new (Err e) ok err told each = kept_at (EachOutcome slot P) old.world new.world (err told) each
-
 -- what may be held after a write that was Ok
 pub held_wrote : (P Q : List ℕ → Type 0) (slot position : ℕ) (bytes : List ℕ) (old new : Seen) → Makes (after_write slot position bytes) old new → Tells old
     → EachHeld slot P old.world.events → ((was : List ℕ) → P was → Q (overlaid was position bytes)) → EachHeld slot Q new.world.events
@@ -149,13 +142,6 @@ pub sync_done : (P : List ℕ → Type 0) (slot : ℕ) (old new : Seen) (result 
     → (Tells old → EachHeld slot P old.world.events) → OnOk result (Tells old → EachOutcome slot P new.world.events)
 sync_done P slot old new (Ok u) e each = λ told. subst (λ (x : World). EachOutcome slot P x.events) (sym (e told)) (sync_settles P slot old.world.events (each told))
 sync_done P slot old new (Err failed) e each = tt
-
--- Where no operation failed half way before it, that is the file now,
-pub sync_leaves : (P : List ℕ → Type 0) (slot : ℕ) (old new : Seen) (result : Result (Unit {0}) Failed) → OnOk result (Makes (after_sync slot) old new)
-    → (Tells old → IsSure old.world × P (file_of old.world slot)) → OnOk result (Tells old → EachOutcome slot P new.world.events)
-sync_leaves P slot old new (Ok u) e here = λ told.
-    subst (λ (x : World). EachOutcome slot P x.events) (sym (e told)) (λ file outcome. subst P (sym (sync_leaves_now slot old.world.events (here told).0 file outcome)) (here told).1)
-sync_leaves P slot old new (Err f) e here = tt
 
 -- the same, said of the file behind the sync
 pub sync_alone : (slot : ℕ) (old new : Seen) (result : Result (Unit {0}) Failed) → OnOk result (Makes (after_sync slot) old new)

@@ -1,7 +1,7 @@
 -- The laws of outcomes: one slot, one event more of each kind, at Ok and at a failure.
 use Rattle.std.proofs.Common.{◌≡◌, ◌⊎◌, ℕ, ◌+◌, ◌-◌, ◌<◌, ◌≤◌, max, Bool, true, false, cond, List, [], ◌∷◌, ◌++◌, length, take, drop, replicate, get_or, Option, Some, None, unwrap_or, refl, sym, ◌∙◌, ap, subst, inl, inr, arith}
 use Rattle.std.specs.Prelude.{MatchBool, MatchOption}
-use Rattle.std.proofs.lemmas.Bool.{cases_Bool, cond-true, cond-false, MatchBool-at_true, MatchBool-at_false}
+use Rattle.std.proofs.lemmas.Bool.{cases_Bool, cond-true, MatchBool-at_true, MatchBool-at_false}
 use Rattle.std.proofs.lemmas.List.{length-append, length-take, length-drop, length-replicate, get_or_append_left, get_or-append_right, get_or-take, get_or-drop, take_at, drop_at}
 use Rattle.cckd_shelf.specs.Files.{overlaid}
 use Rattle.cckd_shelf.specs.Events.{Event, Written, Torn, Cut, HalfCut, Synced, Put, Bound, Name, goes_by, is_about, begun, held_now, file_now, is_sure}
@@ -227,9 +227,6 @@ other_half_cut_step P slot s len es apart each file (was, outcome, leaves) = unm
 pub held_from_each : (P : List ℕ → Type 0) (slot : ℕ) (es : List Event) → EachOutcome slot P es → EachHeld slot P es
 held_from_each P slot es each file h = each file (held_is_outcome es slot file h)
 
-pub held_from_now : (P : List ℕ → Type 0) (slot : ℕ) (es : List Event) → is_sure es ≡ true → P (file_now es slot) → EachHeld slot P es
-held_from_now P slot es sure now file h = subst P (sym (sure_is_now es slot file sure h)) now
-
 pub held_write : (P Q : List ℕ → Type 0) (slot position : ℕ) (bytes : List ℕ) (es : List Event) → EachHeld slot P es
     → ((was : List ℕ) → P was → Q (overlaid was position bytes)) → EachHeld slot Q (Written slot position bytes ∷ es)
 held_write P Q slot position bytes es each step file (was, held, e) =
@@ -239,19 +236,3 @@ pub held_cut : (P Q : List ℕ → Type 0) (slot len : ℕ) (es : List Event) �
     → ((was : List ℕ) → P was → Q (take len was)) → EachHeld slot Q (Cut slot len ∷ es)
 held_cut P Q slot len es each step file (was, held, e) =
     subst Q (sym (e ∙ cond-true (is_about es slot (goes_by es slot)) (take len was) was (about_own es slot))) (step was (each was held))
-
-pub held_sync : (P : List ℕ → Type 0) (slot s : ℕ) (es : List Event) → EachHeld slot P es → EachHeld slot P (Synced s ∷ es)
-held_sync P slot s es each file h = each file h
-
-pub held_put : (P : List ℕ → Type 0) (slot : ℕ) (bytes : List ℕ) (es : List Event) → EachHeld slot P es → EachHeld slot P (Put bytes ∷ es)
-held_put P slot bytes es each file h = each file h
-
-pub held_other_write : (P : List ℕ → Type 0) (slot s position : ℕ) (bytes : List ℕ) (es : List Event) → (s ≡ slot → ⊥)
-    → EachHeld slot P es → EachHeld slot P (Written s position bytes ∷ es)
-held_other_write P slot s position bytes es apart each file (was, held, e) =
-    subst P (sym (e ∙ cond-false (is_about es s (goes_by es slot)) (overlaid was position bytes) was (about_other es s slot apart))) (each was held)
-
-pub held_other_cut : (P : List ℕ → Type 0) (slot s len : ℕ) (es : List Event) → (s ≡ slot → ⊥)
-    → EachHeld slot P es → EachHeld slot P (Cut s len ∷ es)
-held_other_cut P slot s len es apart each file (was, held, e) =
-    subst P (sym (e ∙ cond-false (is_about es s (goes_by es slot)) (take len was) was (about_other es s slot apart))) (each was held)

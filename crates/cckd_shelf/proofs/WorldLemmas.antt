@@ -1,23 +1,18 @@
 -- How the words on a world change by each call, for callers.
-use Rattle.std.proofs.Common.{◌≡◌, ◌⊎◌, ℕ, ◌==◌, Bool, true, false, cond, List, [], ◌∷◌, ◌++◌, take, Option, Some, None, Result, Ok, Err, OnOk, unwrap_or, refl, sym, ◌∙◌, ap, subst, inl, inr, append_assoc}
-use Rattle.std.specs.Prelude.{◌&&◌, not, MatchOption}
+use Rattle.std.proofs.Common.{◌≡◌, ◌⊎◌, ℕ, ◌==◌, Bool, true, false, cond, List, [], ◌∷◌, ◌++◌, Option, Some, None, Result, Ok, Err, OnOk, unwrap_or, refl, sym, ◌∙◌, ap, subst, inl, inr, append_assoc}
+use Rattle.std.specs.Prelude.{◌&&◌, not}
 use Rattle.std.specs.Str.{bytes_eq}
-use Rattle.std.proofs.lemmas.Bool.{cases_Bool, cond-true, cond-false, eq-eqb, ne_eqb, both_ways, false_from_ne_true}
-use Rattle.std.proofs.lemmas.List.{append-nil, take-append-drop}
+use Rattle.std.proofs.lemmas.Bool.{cases_Bool, cond-true, cond-false, eq-eqb}
+use Rattle.std.proofs.lemmas.List.{append-nil}
 use Rattle.std.proofs.lemmas.Slice.Eq.{bytes_eq-Decides}
-use Rattle.cckd_shelf.specs.Events.{Event, Written, Torn, Cut, HalfCut, Synced, Put, Bound, Name, Named, is_name, name_of, was_bound, named_by, goes_by, is_about, begun, held_now, file_now, is_sure, ops_of, output_of}
+use Rattle.cckd_shelf.specs.Events.{Event, Written, Torn, Cut, HalfCut, Synced, Put, Bound, Named, is_name, name_of, was_bound, named_by, goes_by, is_about, begun, held_now, file_now, is_sure, ops_of, output_of}
 use Rattle.cckd_shelf.specs.Files.{overlaid}
-use Rattle.cckd_shelf.specs.World.{World, IsSure, IsTied, file_of, held_by, after_bind, after_write, after_cut, after_take}
-use Rattle.cckd_shelf.specs.Outcomes.{MayBeLeft, IsOutcome, EachOutcome}
-use Rattle.cckd_shelf.proofs.NameLemmas.{same_text, texts_differ, text_is, about_own, name_was_bound}
+use Rattle.cckd_shelf.specs.World.{World, IsSure, IsTied, file_of, held_by, after_bind, after_write}
+use Rattle.cckd_shelf.proofs.NameLemmas.{same_text, about_own, name_was_bound}
 
 is_own : (o : Option (List ℕ)) (name : List ℕ) → is_name o name ≡ true → o ≡ Some name
 is_own None name e = cc
 is_own (Some own) name e = let same : own ≡ name = (bytes_eq-Decides own name).0 e in ap (λ (n : List ℕ). Some n) same
-
--- another text is not a slot's name
-pub not_named : (own name : List ℕ) → (own ≡ name → ⊥) → is_name (Some own) name ≡ false
-not_named own name apart = false_from_ne_true (bytes_eq own name) (λ k. apart ((bytes_eq-Decides own name).0 k))
 
 -- a slot that has a name holds what the name holds
 pub tied_slot : (w : World) (slot : ℕ) (name : List ℕ) → IsTied w → name_of w.events slot ≡ Some name → held_by w name ≡ file_of w slot
@@ -40,39 +35,6 @@ again_begins : (es : List Event) (name bytes : List ℕ) → was_bound es name �
 again_begins es name bytes e =
     cond-false (bytes_eq name name && not (was_bound es name)) (Some bytes) None
     (ap (λ (b : Bool). b && not (was_bound es name)) (same_text name) ∙ ap not e)
-
--- The first bind of a name brings its bytes in.
-pub first_bind : (slot : ℕ) (name bytes : List ℕ) (es : List Event) → was_bound es name ≡ false
-    → EachOutcome slot (λ file. file ≡ bytes) (Bound slot name bytes ∷ es)
-first_bind slot name bytes es e file h =
-    let left : MayBeLeft (Bound slot name bytes ∷ es) (Named name) file = subst (λ (n : Name). MayBeLeft (Bound slot name bytes ∷ es) n file) (own_goes es slot name bytes) h in
-    subst (λ (o : Option (List ℕ)). MatchOption o (MayBeLeft es (Named name) file) (λ (start : List ℕ). file ≡ start)) (first_begins es name bytes e) left
-
--- Any later one leaves what was open of it.
-pub later_bind : (slot : ℕ) (name bytes : List ℕ) (es : List Event) → was_bound es name ≡ true
-    → EachOutcome slot (MayBeLeft es (Named name)) (Bound slot name bytes ∷ es)
-later_bind slot name bytes es e file h =
-    let left : MayBeLeft (Bound slot name bytes ∷ es) (Named name) file = subst (λ (n : Name). MayBeLeft (Bound slot name bytes ∷ es) n file) (own_goes es slot name bytes) h in
-    subst (λ (o : Option (List ℕ)). MatchOption o (MayBeLeft es (Named name) file) (λ (start : List ℕ). file ≡ start)) (again_begins es name bytes e) left
-
--- and back: all that was open is an outcome again
-pub bound_again : (slot : ℕ) (name bytes : List ℕ) (es : List Event) (file : List ℕ) → was_bound es name ≡ true → MayBeLeft es (Named name) file
-    → IsOutcome (Bound slot name bytes ∷ es) slot file
-bound_again slot name bytes es file e h =
-    subst (λ (n : Name). MayBeLeft (Bound slot name bytes ∷ es) n file) (sym (own_goes es slot name bytes))
-    (subst (λ (o : Option (List ℕ)). MatchOption o (MayBeLeft es (Named name) file) (λ (start : List ℕ). file ≡ start)) (sym (again_begins es name bytes e)) h)
-
-named_begun : (b : Bool) (name other bytes file : List ℕ) (bound : Bool) (rest : Type 0) → b ≡ bytes_eq name other
-    → MatchOption (cond (b && not bound) (Some bytes) None) rest (λ (start : List ℕ). file ≡ start)
-    → ((name ≡ other) × (bound ≡ false) × (file ≡ bytes)) ⊎ rest
-named_begun false name other bytes file bound rest e h = inr h
-named_begun true name other bytes file false rest e h = inl (text_is name other (sym e), refl, h)
-named_begun true name other bytes file true rest e h = inr h
-
--- what a bind leaves of the file of any name: the bytes that it brought in, or what was open of it
-pub bind_left : (slot : ℕ) (name bytes : List ℕ) (es : List Event) (other file : List ℕ) → MayBeLeft (Bound slot name bytes ∷ es) (Named other) file
-    → ((name ≡ other) × (was_bound es other ≡ false) × (file ≡ bytes)) ⊎ MayBeLeft es (Named other) file
-bind_left slot name bytes es other file h = named_begun (bytes_eq name other) name other bytes file (was_bound es other) (MayBeLeft es (Named other) file) refl h
 
 bound_holds : (es : List Event) (slot : ℕ) (name bytes : List ℕ) → (was_bound es name ≡ true → bytes ≡ held_now es (Named name))
     → file_now (Bound slot name bytes ∷ es) slot ≡ bytes
@@ -105,51 +67,10 @@ bind_names w slot name =
 
 -- what a bind of one slot leaves of another that has another name
 
-other_name : (es : List Event) (slot other : ℕ) (name bytes : List ℕ) → (slot ≡ other → ⊥) → is_name (name_of es other) name ≡ false
-    → name_of (Bound slot name bytes ∷ es) other ≡ name_of es other
-other_name es slot other name bytes apart free =
-    cond-false (slot == other) (Some name) _ (ne_eqb slot other apart) ∙ cond-false (is_name (name_of es other) name) None (name_of es other) free
-
-other_begins : (es : List Event) (other : ℕ) (name bytes : List ℕ) (own : Option (List ℕ)) → name_of es other ≡ own → is_name own name ≡ false
-    → begun es name bytes (named_by other own) ≡ None
-other_begins es other name bytes None e free = cond-false (is_name (name_of es other) name) (Some []) None (ap (λ (o : Option (List ℕ)). is_name o name) e ∙ free)
-other_begins es other name bytes (Some own) e free =
-    cond-false (bytes_eq name own && not (was_bound es own)) (Some bytes) None
-    (ap (λ (b : Bool). b && not (was_bound es own)) (texts_differ name own (λ same. both_ways (bytes_eq own name) free ((bytes_eq-Decides own name).1 (sym same)))))
-
--- its outcomes stay,
-pub other_bind_step : (P : List ℕ → Type 0) (slot other : ℕ) (name bytes : List ℕ) (es : List Event) → (slot ≡ other → ⊥) → is_name (name_of es other) name ≡ false
-    → EachOutcome other P es → EachOutcome other P (Bound slot name bytes ∷ es)
-other_bind_step P slot other name bytes es apart free each file h =
-    let left : MayBeLeft (Bound slot name bytes ∷ es) (goes_by es other) file =
-    subst (λ (o : Option (List ℕ)). MayBeLeft (Bound slot name bytes ∷ es) (named_by other o) file) (other_name es slot other name bytes apart free) h in
-    each file (subst (λ (o : Option (List ℕ)). MatchOption o (MayBeLeft es (goes_by es other) file) (λ (start : List ℕ). file ≡ start))
-    (other_begins es other name bytes (name_of es other) refl free) left)
-
-other_file : (es : List Event) (slot other : ℕ) (name bytes : List ℕ) → (slot ≡ other → ⊥) → is_name (name_of es other) name ≡ false
-    → file_now (Bound slot name bytes ∷ es) other ≡ file_now es other
-other_file es slot other name bytes apart free =
-    ap (λ (o : Option (List ℕ)). held_now (Bound slot name bytes ∷ es) (named_by other o)) (other_name es slot other name bytes apart free)
-    ∙ ap (λ (o : Option (List ℕ)). unwrap_or o (file_now es other)) (other_begins es other name bytes (name_of es other) refl free)
-
 -- and so do its file and its name
 pub record Leaves (w new : World) (other : ℕ) : Type 0 where
   pub file : file_of new other ≡ file_of w other
   pub name : name_of new.events other ≡ name_of w.events other
-
-pub bind_leaves : (w : World) (slot other : ℕ) (name : List ℕ) → (slot ≡ other → ⊥) → is_name (name_of w.events other) name ≡ false
-    → Leaves w (after_bind slot name w) other
-bind_leaves w slot other name apart free =
-    elim (cases_Bool (is_name (name_of w.events slot) name)) [
-      | inl k ↦ let same : after_bind slot name w ≡ w = cond-true (is_name (name_of w.events slot) name) w _ k in
-          record { file = ap (λ (x : World). file_of x other) same; name = ap (λ (x : World). name_of x.events other) same }
-      | inr k ↦ let new : World = record w { events = Bound slot name (held_by w name) ∷ w.events } in
-          let same : after_bind slot name w ≡ new = cond-false (is_name (name_of w.events slot) name) w new k in
-          record {
-            file = ap (λ (x : World). file_of x other) same ∙ other_file w.events slot other name (held_by w name) apart free;
-            name = ap (λ (x : World). name_of x.events other) same ∙ other_name w.events slot other name (held_by w name) apart free;
-          }
-    ]
 
 -- what a bind leaves of the world
 pub record BindKeeps (w new : World) : Type 0 where
@@ -172,10 +93,6 @@ now_wrote slot position bytes w new e =
     ap (λ (x : World). file_of x slot) e
     ∙ cond-true (is_about w.events slot (goes_by w.events slot)) (overlaid (file_of w slot) position bytes) (file_of w slot) (about_own w.events slot)
 
-pub now_cut : (slot len : ℕ) (w new : World) → new ≡ after_cut slot len w → file_of new slot ≡ take len (file_of w slot)
-now_cut slot len w new e =
-    ap (λ (x : World). file_of x slot) e ∙ cond-true (is_about w.events slot (goes_by w.events slot)) (take len (file_of w slot)) (file_of w slot) (about_own w.events slot)
-
 -- no operation failed half way yet
 pub sure_wrote : (slot position : ℕ) (bytes : List ℕ) (w new : World) → new ≡ after_write slot position bytes w → IsSure w → IsSure new
 sure_wrote slot position bytes w new e h = subst IsSure (sym e) h
@@ -192,10 +109,6 @@ output_grows (Put bytes ∷ newer) old =
     let rest = output_grows newer old in
     (rest.0 ++ bytes, ap (λ (s : List ℕ). s ++ bytes) rest.1 ∙ append_assoc (output_of old) rest.0 bytes)
 output_grows (Bound s name bytes ∷ newer) old = output_grows newer old
-
--- the script is what was taken, and what is left
-pub take_splits : (w : World) (n : ℕ) → take n w.script ++ (after_take n w).script ≡ w.script
-take_splits w n = take-append-drop n w.script
 
 -- what follows of what an Ok gives
 pub on_ok : {V E : Type 0} (A B : Type 0) (r : Result V E) → (A → B) → OnOk r A → OnOk r B

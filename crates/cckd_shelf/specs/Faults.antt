@@ -16,10 +16,6 @@ count Syncs f = f.syncs
 count Takes f = f.takes
 count Puts f = f.puts
 
--- the count rose, or stands at the last value of a `u64`
-abbrev pub Rose : ℕ → ℕ → Type 0
-Rose old new = min (old + 1) (2 ^ 64 - 1) ≤ new
-
 -- no count fell
 pub record NoneFell (old new : Faults) : Type 0 where
   pub reads : old.reads ≤ new.reads

@@ -273,12 +273,6 @@ dense_united full bs n l h = λ i m.
           omega (arith, g, e1, s)
     ]
 
-pub dense_more : (full : ℕ) (bs : List (List Piece)) (n : ℕ) → IsDense full n bs → full < length (block_at bs n) + length (block_at bs (n + 1)) → IsDense full (n + 1) bs
-dense_more full bs n h g = λ i m. elim (cases_lt i n) [
-  | inl l ↦ h i l
-  | inr ge ↦ let e : n ≡ i = omega arith in subst (λ (k : ℕ). full < length (block_at bs k) + length (block_at bs (k + 1))) e g
-]
-
 pub marked_both : (xs ys : List Piece) (a b c d : Bool) → AreMarked xs a b → AreMarked ys c d → AreMarked (xs ++ ys) (a || c) (b || d)
 marked_both xs ys a b c d m n = record {
   none_leaving = λ e. let h = m.none_leaving (or_left a c e) in let k = n.none_leaving (or_right a c e) in let s = counted_append is_leaving xs ys in omega (arith, h, k, s);

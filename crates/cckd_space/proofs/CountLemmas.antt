@@ -1,14 +1,11 @@
 -- For callers: how many pieces of a kind there are after each call.
-use Rattle.std.proofs.Common.{◌≡◌, ℕ, suc, ◌+◌, ◌-◌, min, nat_lt, ◌==◌, Bool, true, false, cond, ◌&&◌, List, [], ◌∷◌, ◌++◌, length, map, Option, Some, None, refl, sym, ◌∙◌, ap, subst, arith}
+use Rattle.std.proofs.Common.{◌≡◌, ℕ, suc, ◌+◌, ◌-◌, min, nat_lt, ◌==◌, Bool, true, false, cond, ◌&&◌, List, [], ◌∷◌, ◌++◌, length, map, Some, refl, sym, ◌∙◌, ap, subst, arith}
 use Rattle.std.proofs.lemmas.Bool.{cond_both, and_parts}
 use Rattle.cckd_base.specs.declared.space.Extent.{Extent}
-use Rattle.cckd_base.specs.declared.space.Owner.{Owner}
 use Rattle.cckd_space.specs.declared.piece.Kind.{Kind}
 use Rattle.cckd_space.specs.declared.piece.Kind.TheVariants.{Used, Free, Reserved, Leaving, Pending}
 use Rattle.cckd_space.specs.declared.piece.Piece.{Piece}
-use Rattle.cckd_space.specs.Pieces.{is_free, free_kind, is_used_at, is_reserved_at, used_kind, reserved_kind, first, replaced, free_piece, free_run, reserved_piece, reserved_in, aligned_up, piece_end, trimmed, used_end, end_place, appended, cut, settled, left, freed, has_room, has_room_below, retired, retired_as, is_leaving, leaving_kind, released, released_as, is_pending, pending_kind, joined, merged, counted, pieces_of, used_piece}
-use Rattle.cckd_space.specs.Plan.{first_fit_below, with_reserved}
-use Rattle.cckd_space.proofs.LaidLemmas.{room_facts, below_room}
+use Rattle.cckd_space.specs.Pieces.{is_free, free_kind, is_used_at, is_reserved_at, used_kind, reserved_kind, first, replaced, free_piece, free_run, reserved_piece, reserved_in, aligned_up, piece_end, trimmed, used_end, end_place, appended, cut, left, retired, retired_as, is_leaving, leaving_kind, released, released_as, is_pending, pending_kind, joined, merged, counted, pieces_of, used_piece}
 
 -- one, or none
 abbrev pub one : Bool → ℕ
@@ -194,57 +191,12 @@ module _ (of : Kind → Bool) (free : of Free ≡ false) where
       let m : many (of Used) (suc (length es)) ≡ one (of Used) + many (of Used) (length es) = many_more (of Used) (length es) in
       omega (arith, r, a, b, m)
 
-  count_filled : (test : Piece → Bool) (need : ℕ) → ((p : Piece) → test p ≡ true → is_free p ≡ true) → (ps : List Piece) (q : Piece) → first test ps ≡ Some q → test q ≡ true → count (replaced test (reserved_in need) ps) ≡ count ps + one (of Reserved)
-  count_filled test need fits ps q e t =
-      let a = count_replaced test (reserved_in need) ps q e in
-      let b = count_reserved_in need q in
-      let n = ap one (free_none q (fits q t)) in
-      omega (arith, a, b, n)
-
-  -- `place`
-  pub count_placed : (need : ℕ) (ps : List Piece) → count (with_reserved need ps) ≡ count ps + one (of Reserved)
-  count_placed need ps = by (first (has_room need) ps) refl
-    where
-      by : (o : Option Piece) → first (has_room need) ps ≡ o → count (with_reserved need ps) ≡ count ps + one (of Reserved)
-      by None e =
-          let tail = free_run (used_end ps) (end_place ps) ++ reserved_piece (end_place ps) need ∷ [] in
-          let a = count_end ps tail in
-          let b = count_append (free_run (used_end ps) (end_place ps)) (reserved_piece (end_place ps) need ∷ []) in
-          let c = count_run (used_end ps) (end_place ps) in
-          rw e (omega (arith, a, b, c))
-      by (Some q) e = rw e (count_filled (has_room need) need (λ p t. (room_facts need p t).free) ps q e (first_passes (has_room need) ps q e))
-
-  -- `place_below`
-  pub count_placed_below : (need before : ℕ) (ps : List Piece) (pos : ℕ) → first_fit_below need before ps ≡ Some pos → count (replaced (has_room_below need before) (reserved_in need) ps) ≡ count ps + one (of Reserved)
-  count_placed_below need before ps pos h = by (first (has_room_below need before) ps) refl
-    where
-      by : (o : Option Piece) → first (has_room_below need before) ps ≡ o → count (replaced (has_room_below need before) (reserved_in need) ps) ≡ count ps + one (of Reserved)
-      by None e = absurd (let g : None ≡ Some pos = rw e at h in cc)
-      by (Some q) e =
-          count_filled (has_room_below need before) need (λ p t. (room_facts need p (below_room need before p t)).free) ps q e (first_passes (has_room_below need before) ps q e)
-
-  -- `settle`
-  pub count_settled : (pos len : ℕ) (owner : Owner) (ps : List Piece) (p : Piece) → first (is_reserved_at pos) ps ≡ Some p → count (replaced (is_reserved_at pos) (λ q. settled len owner q ∷ []) ps) + one (of Reserved) ≡ count ps + one (of Used)
-  count_settled pos len owner ps p e =
-      let a = count_replaced (is_reserved_at pos) (λ q. settled len owner q ∷ []) ps p e in
-      let k = ap (λ (x : Kind). one (of x)) (found_reserved pos p (first_passes (is_reserved_at pos) ps p e)) in
-      omega (arith, a, k)
-
   -- `leave`
   pub count_left : (pos : ℕ) (ps : List Piece) (p : Piece) → first (is_used_at pos) ps ≡ Some p → count (replaced (is_used_at pos) (λ q. left q ∷ []) ps) + one (of Used) ≡ count ps + one (of Leaving)
   count_left pos ps p e =
       let a = count_replaced (is_used_at pos) (λ q. left q ∷ []) ps p e in
       let k = ap (λ (x : Kind). one (of x)) (found_used pos p (first_passes (is_used_at pos) ps p e)) in
       omega (arith, a, k)
-
-  -- `give_back`
-  pub count_given_back : (pos : ℕ) (ps : List Piece) (p : Piece) → first (is_reserved_at pos) ps ≡ Some p → count (merged (replaced (is_reserved_at pos) (λ q. freed q ∷ []) ps)) + one (of Reserved) ≡ count ps
-  count_given_back pos ps p e =
-      let a = count_replaced (is_reserved_at pos) (λ q. freed q ∷ []) ps p e in
-      let m = count_merged (replaced (is_reserved_at pos) (λ q. freed q ∷ []) ps) in
-      let k = ap (λ (x : Kind). one (of x)) (found_reserved pos p (first_passes (is_reserved_at pos) ps p e)) in
-      let f = ap one free in
-      omega (arith, a, m, k, f)
 
   retired_one : (k : Kind) → one (of (retired_kind k)) + many (of Leaving) (one (leaving_kind k)) ≡ one (of k) + many (of Pending) (one (leaving_kind k))
   retired_one Used = omega (arith, many_none (of Leaving), many_none (of Pending))
@@ -283,10 +235,6 @@ module _ (of : Kind → Bool) (free : of Free ≡ false) where
   -- `release_all`
   pub count_released : (ps : List Piece) → count (merged (map released ps)) + many (of Pending) (counted is_pending ps) ≡ count ps
   count_released ps = let a = count_merged (map released ps) in let b = count_released_each ps in omega (arith, a, b)
-
-  -- `trim`
-  pub count_trimmed : (ps : List Piece) → count (trimmed ps) ≡ count ps
-  count_trimmed ps = count_trimmed_all ps
 
   -- `cut_back`
   pub count_cut : (len size : ℕ) (ps : List Piece) → count (cut len size ps) ≡ count ps

@@ -11,7 +11,6 @@ pub mod CallerLemmas
 pub mod PlaceLemmas
 pub mod SpareLemmas
 pub mod SameLemmas
-pub mod SettleLemmas
 pub mod UsedLemmas
 pub mod BlockMarkLemmas
 pub mod BlockLemmas

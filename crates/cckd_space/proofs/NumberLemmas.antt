@@ -26,17 +26,6 @@ no_offer need p some e = by (is_free p) refl
         rw f (omega (arith, m))
     by false f = rw f some
 
-none_offered : (need : ℕ) → 0 < need → (xs : List Piece) → first (has_room need) xs ≡ None → largest xs < need
-none_offered need some [] e = some
-none_offered need some (x ∷ xs) e = by (has_room need x) refl (none_offered need some xs)
-  where
-    by : (b : Bool) → has_room need x ≡ b → (first (has_room need) xs ≡ None → largest xs < need) → largest (x ∷ xs) < need
-    by true f more = absurd (let g = rw f at e in cc)
-    by false f more =
-        let r = more (rw f at e) in
-        let o = no_offer need x some f in
-        omega (arith, r, o)
-
 offer_le : (p : Piece) (end : ℕ) → piece_end p ≤ end → offer p ≤ end
 offer_le p end h = cond_both (is_free p) (piece_end p - aligned_up p.pos) 0 (λ (n : ℕ). n ≤ end) (λ e. omega arith) (λ e. omega arith)
 

@@ -3,10 +3,10 @@ use Rattle.std.proofs.Common.{◌≡◌, ◌⊎◌, ℕ, ◌+◌, ◌≤◌, min
 use Rattle.std.proofs.lemmas.Bool.{and_parts, cond_both, cond-false, leb-true}
 use Rattle.cckd_base.specs.Image.{ShareNoByte}
 use Rattle.cckd_space.specs.declared.piece.Piece.{Piece}
-use Rattle.cckd_space.specs.Pieces.{Has, is_free, first, replaced, has_room, has_room_below, aligned_up, piece_end, used_end, end_place, reserved_piece, reserved_in, IsLaid}
-use Rattle.cckd_space.specs.Plan.{IsClear, first_fit, first_fit_below, place_of, with_reserved}
+use Rattle.cckd_space.specs.Pieces.{Has, is_free, first, has_room, has_room_below, aligned_up, piece_end, used_end, end_place, reserved_piece, IsLaid}
+use Rattle.cckd_space.specs.Plan.{IsClear, first_fit, first_fit_below, place_of}
 use Rattle.cckd_space.proofs.LaidLemmas.{below_room, laid_le, room_facts}
-use Rattle.cckd_space.proofs.CallerLemmas.{first_has, has_replaced, laid_has, placed_keeps}
+use Rattle.cckd_space.proofs.CallerLemmas.{first_has, laid_has}
 
 -- two pieces of a list are one, or share no byte
 pub laid_apart : (at : ℕ) (ps : List Piece) (end : ℕ) (p q : Piece) → IsLaid at ps end → Has p ps → Has q ps → (p ≡ q) ⊎ ShareNoByte p.pos p.size q.pos q.size
@@ -115,13 +115,3 @@ below_within need before ps end o l h = subst (λ (x : Option ℕ). IfSome x (λ
         let b = leb-true (aligned_up q.pos + need) before (and_parts (has_room need q) (nat_le (aligned_up q.pos + need) before) f.1).1 in
         let w = has_within 0 ps end q l f.0 in
         rw e (omega (arith, r.fits, b, w))
-
--- each piece that isn't Free is in the other list too
-abbrev pub KeepsTaken : List Piece → List Piece → Type 0
-KeepsTaken ps qs = (p : Piece) → is_free p ≡ false → Has p ps → Has p qs
-
-pub placed_keeps_all : (need : ℕ) (ps : List Piece) → KeepsTaken ps (with_reserved need ps)
-placed_keeps_all need ps p n h = placed_keeps need ps p n h
-
-pub below_keeps_all : (need before : ℕ) (ps : List Piece) → KeepsTaken ps (replaced (has_room_below need before) (reserved_in need) ps)
-below_keeps_all need before ps p n h = has_replaced (has_room_below need before) (reserved_in need) ps p (rw n refl) h

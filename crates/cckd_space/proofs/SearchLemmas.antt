@@ -49,12 +49,6 @@ module _ (test : Piece → Bool) where
   pub none_at : (xs : List Piece) (k : ℕ) (d : Piece) → position test xs ≡ None → k < length xs → test (get_or xs k d) ≡ false
   none_at xs k d e l = fails_at xs k d (none_len xs e) l
 
-  pub none_before : (xs : List Piece) (d : Piece) → position test xs ≡ None → position_or_len test xs ≡ length xs
-  none_before xs d e = failed_len xs d (λ k l. none_at xs k d e l)
-
-  pub some_before : (xs : List Piece) (i : ℕ) (d : Piece) → position test xs ≡ Some i → position_or_len test xs ≡ i
-  some_before xs i d e = passed_len xs i d (is_first test xs i d e)
-
   -- a part of the list, outside which no piece passes
   pub record IsWhere (xs : List Piece) (from len : ℕ) : Type 0 where
     pub within : from + len ≤ length xs

@@ -67,16 +67,6 @@ pub record HasSifted (level : ℕ) (g : Geometry) (start now : LayerState) (a b 
   pub few : bad ≤ n
   pub counted : Tells a → IsSure a.world → bad ≡ bad_among level g (held null_track start.tables.layout start.tables.stages (file_of a.world start.slot)) n
 
-pub none_sifted : (level : ℕ) (g : Geometry) (start : LayerState) (a : Seen) → CanRead start a → HasSifted level g start start a a 0 0
-none_sifted level g start a can = record {
-  rest = refl;
-  can_read = can;
-  kept = λ told. refl;
-  faults = refl;
-  few = omega arith;
-  counted = λ told sure. refl;
-}
-
 module _ (level : ℕ) (g : Geometry) (start now : LayerState) (a b : Seen) (bad n : ℕ) (tells : Tells a → Tells b) (was : HasSifted level g start now a b bad n) where
   pub sifted_shape : start.tables.layout.geo ≡ g → now.tables.layout.geo ≡ g
   sifted_shape e = ap (λ (s : LayerState). s.tables.layout.geo) was.rest ∙ e
@@ -114,9 +104,6 @@ module _ (level : ℕ) (g : Geometry) (start now : LayerState) (a b : Seen) (bad
 read_refused : (A B : Type 0) (why : LayerFault) (old new : Faults) → why ≡ fault.ReadFault → CountsReads {A = A} (Err why) old new → CountsReads {A = B} (Err why) old new
 read_refused A B why old new e h =
     subst (λ (w : LayerFault). CountsReads {A = B} (Err w) old new) (sym e) (subst (λ (w : LayerFault). CountsReads {A = A} (Err w) old new) e h)
-
-pub sifted_counts : (A B : Type 0) (why : LayerFault) (old mid new : Faults) → mid ≡ old → why ≡ fault.ReadFault → CountsReads {A = A} (Err why) mid new → CountsReads {A = B} (Err why) old new
-sifted_counts A B why old mid new same e h = read_refused A B why old new e (subst (λ (f : Faults). CountsReads {A = A} (Err why) f new) same h)
 
 -- ---- the layers
 
@@ -156,16 +143,6 @@ pub record HasChecked (level : ℕ) (g : Geometry) (start now : List LayerState)
   pub faults : b.faults ≡ a.faults
   pub few : bad ≤ 1048576 * n
   pub counted : Tells a → IsSure a.world → bad ≡ bad_to level g (maps_of null_track start (file_of a.world)) n
-
-pub none_checked : (level : ℕ) (g : Geometry) (start : List LayerState) (a : Seen) → CanReadAll start a → HasChecked level g start start a a 0 0
-none_checked level g start a can = record {
-  cached = refl;
-  can_read = can;
-  kept = λ told. refl;
-  faults = refl;
-  few = omega arith;
-  counted = λ told sure. refl;
-}
 
 module _ (level : ℕ) (g : Geometry) (start now : List LayerState) (a b : Seen) (bad n : ℕ) (tells : Tells a → Tells b) (was : HasChecked level g start now a b bad n)
     (x : LayerState) (is : x ≡ get_or now n x) (low : n < length start) (are : AreLayersFrom g 0 start)

@@ -92,19 +92,6 @@ pub record HasAsked (null : NullBytes) (t : ℕ) (start now : List LayerState) (
   pub none : Tells a → IsSure a.world → seen_to (maps_of null start (file_of a.world)) (length start) t ≡ seen_to (maps_of null start (file_of a.world)) left t
   pub same : Tells a → IsSure a.world → out ≡ was
 
--- before any was
-pub none_asked : (null : NullBytes) (t : ℕ) (start : List LayerState) (a : Seen) (out : List ℕ) (left : ℕ) → left ≡ length start → CanReadAll start a
-    → HasAsked null t start start a a out out left
-none_asked null t start a out left e can = record {
-  cached = refl;
-  can_read = can;
-  kept = λ told. refl;
-  counts = refl;
-  called = omega (arith, e);
-  none = λ told sure. ap (λ (n : ℕ). seen_to (maps_of null start (file_of a.world)) n t) (sym e);
-  same = λ told sure. refl;
-}
-
 module _ (null : NullBytes) (value : List ℕ → List ℕ) (fault_of : Geometry → ℕ → List ℕ → Option TrackFault) (t : ℕ) (start now : List LayerState) (a b : Seen) (was out : List ℕ) (left n : ℕ)
     (tells : Tells a → Tells b) (asked : HasAsked null t start now a b was out left) (next : suc n ≡ left) (x : LayerState) (is : x ≡ get_or now n x) (low : n < length start)
     (geo : Geometry) (are : AreLayersFrom geo 0 start) (device : t < track_count geo)

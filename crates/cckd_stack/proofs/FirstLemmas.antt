@@ -15,7 +15,7 @@ use Rattle.cckd_base.proofs.HeaderLemmas.{faultless}
 use Rattle.cckd_image.specs.declared.roles.Roles.TheVariants.{Base}
 use Rattle.cckd_layer.specs.Mounted.{IsLookCause, SaysGeometry}
 use Rattle.cckd_stack.specs.Stacked.{OfFiles}
-use Rattle.cckd_stack.specs.Mounting.{IsRow, HasRow, IsRowCause, IsFirstCase, IsRefused, IsMountCause, IsLayersCause, shape_of}
+use Rattle.cckd_stack.specs.Mounting.{IsRow, HasRow, IsFirstCase, IsRefused, IsMountCause, IsLayersCause, shape_of}
 
 -- ---- a file with the headers of an image is there
 
@@ -47,16 +47,6 @@ row_present files zero geo row says = absurd (false≢true (sym row ∙ headed_p
 row_present files (suc n) geo row says = let e : max (suc n) 1 ≡ suc n = omega arith in subst (IsRow files) (sym e) row
 
 -- ---- refusals
-
-pub row_cause : (old : Seen) (why : OpenFault) → IsRowCause old why → IsMountCause old why
-row_cause old (open_fault.Header at fault) h = absurd h
-row_cause old (open_fault.Gap at) h = h
-row_cause old (open_fault.Mismatch at base found) h = absurd h
-row_cause old (open_fault.Scan at fault) h = absurd h
-row_cause old open_fault.ReadFault h = tt
-row_cause old open_fault.WriteFault h = absurd h
-row_cause old open_fault.SyncFault h = absurd h
-row_cause old open_fault.Memory h = absurd h
 
 -- the base's headers are refused, after it was looked at which slots are there
 pub base_cause : (old mid : Seen) (count slot : ℕ) (why : OpenFault) → slot ≡ 0 → (Tells old → Tells mid) → Stays old mid → OfFiles (λ files. HasRow files count) old → IsLookCause Base slot mid why

@@ -84,9 +84,6 @@ unfolding number_if
 broken_here e h none here =
     ap (λ (was : Option ℕ). broken_with was (length h + 1) e) none ∙ ap (λ (b : Bool). number_if b (length h + 1)) here
 
-pub broken_still : (e : Entry) (h : History) (at : ℕ) → broken_at h ≡ Some at → broken_at (e ∷ h) ≡ Some at
-broken_still e h at is = ap (λ (was : Option ℕ). broken_with was (length h + 1) e) is
-
 -- ---- what a stop leaves, by whether something broke
 
 module _ (g : Geometry) (s0 : Stack) (h : History) (e : Entry) (s : Stack) where

@@ -1,8 +1,7 @@
 -- Layers mounted one after another.
-use Rattle.std.proofs.Common.{◌≡◌, ◌⊎◌, ℕ, zero, suc, ◌+◌, ◌<◌, ◌≤◌, false, List, [], ◌∷◌, ◌++◌, length, Err, inl, inr, refl, sym, ◌∙◌, ap, subst, arith}
+use Rattle.std.proofs.Common.{◌≡◌, ◌⊎◌, ℕ, zero, suc, ◌+◌, ◌<◌, ◌≤◌, false, List, [], ◌∷◌, ◌++◌, length, inl, inr, refl, sym, ◌∙◌, ap, subst, arith}
 use Rattle.std.specs.List.{AllByRecursion}
 use Rattle.std.proofs.lemmas.List.{length-append}
-use Rattle.cckd_shelf.specs.declared.fault.Faults.{Faults}
 use Rattle.cckd_shelf.specs.Seen.{Seen, Tells, Makes, MayMake}
 use Rattle.cckd_shelf.specs.World.{World, IsSure, file_of, after_sync}
 use Rattle.cckd_shelf.proofs.OutcomeLemmas.{sync_step}
@@ -12,7 +11,7 @@ use Rattle.cckd_base.specs.declared.open_fault.OpenFault.{OpenFault}
 use Rattle.cckd_base.specs.declared.open_fault.OpenFault.TheVariants as open_fault
 use Rattle.cckd_base.specs.Header.{headers_of, layout_of}
 use Rattle.cckd_base.specs.Image.{IsSnug, IsSound}
-use Rattle.cckd_layer.specs.Mounted.{LayerState, ReadsFrom, CanRead, IsFresh, IsOf, CountsOpen, kept_view}
+use Rattle.cckd_layer.specs.Mounted.{LayerState, ReadsFrom, CanRead, IsFresh, IsOf, kept_view}
 use Rattle.cckd_layer.specs.Stands.{LayerView, Stands}
 use Rattle.cckd_layer.specs.Sits.{IsMarked, Sits}
 use Rattle.cckd_layer.specs.Reads.{OfFile}
@@ -76,18 +75,6 @@ stand_more files w slot n [] s e all here =
     let same : n ≡ slot = omega (arith, e) in
     (subst (λ (k : ℕ). IsSnug s.tables.layout (files k) → Stands (kept_view s) k w) same here, tt)
 stand_more files w slot n (x ∷ xs) s e all here = (all.0, stand_more files w (suc slot) n xs s (omega (arith, e)) all.1 here)
-
-pub none_mounted : (limit : ℕ) (shape : Geometry) (a : Seen) → HasMounted limit shape a a []
-none_mounted limit shape a = record {
-  fresh = tt;
-  shapes = tt;
-  whole = tt;
-  are = λ told sure. tt;
-  stand = λ told sure. tt;
-  can_read = tt;
-  synced = λ told. refl;
-  counts = refl;
-}
 
 -- ---- an image in its place
 
@@ -180,20 +167,3 @@ module _ (limit : ℕ) (shape : Geometry) (a b c : Seen) (layers : List LayerSta
           done = made ∙ ap (after_sync slot) (mounted.synced told) ∙ ap (λ (k : ℕ). after_sync k (after_syncs (length layers) a.world)) (slot_is ∙ next);
         }
         either told (inr kept) = record { count = length layers; few = omega (arith, few, next); done = kept ∙ mounted.synced told }
-
-open_counts : (A B : Type 0) (why : OpenFault) (old new : Faults) → CountsOpen {A = A} (Err why) old new → CountsOpen {A = B} (Err why) old new
-open_counts A B (open_fault.Header at fault) old new h = h
-open_counts A B (open_fault.Scan at fault) old new h = h
-open_counts A B (open_fault.Gap at) old new h = h
-open_counts A B (open_fault.Mismatch at base other) old new h = h
-open_counts A B open_fault.ReadFault old new h = h
-open_counts A B open_fault.WriteFault old new h = h
-open_counts A B open_fault.SyncFault old new h = h
-open_counts A B open_fault.Memory old new h = h
-
--- the counts of a refusal that is handed on
-pub handed_counts : (A B : Type 0) (why : OpenFault) (old mid new : Faults) → mid ≡ old → CountsOpen {A = A} (Err why) mid new → CountsOpen {A = B} (Err why) old new
-handed_counts A B why old mid new e h = open_counts A B why old new (subst (λ (f : Faults). CountsOpen {A = A} (Err why) f new) e h)
-
-pub mounted_syncs : (limit : ℕ) (shape : Geometry) (a b : Seen) (layers : List LayerState) → length layers ≤ 9 → HasMounted limit shape a b layers → SyncsSome a b
-mounted_syncs limit shape a b layers few mounted = λ told. record { count = length layers; few = few; done = mounted.synced told }

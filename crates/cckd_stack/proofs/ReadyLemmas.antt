@@ -2,8 +2,7 @@
 use Rattle.cckd_layer.proofs.InRoomLemmas.{room_adds, room_then}
 use Rattle.cckd_stack.specs.Room.{LacksPlace, IsNoFull}
 use Rattle.cckd_layer.specs.Justified.{StaysInRoom, AddsInRoom}
-use Rattle.cckd_tables.specs.Staging.{Stages, IsMoved}
-use Rattle.std.proofs.Common.{◌≡◌, ℕ, ◌<◌, true, List, [], Option, Some, None, Result, Ok, Err, OnOk, IfErr, refl, sym, ◌∙◌, ap, subst, inl, arith}
+use Rattle.std.proofs.Common.{◌≡◌, ℕ, ◌<◌, true, List, [], Option, Some, None, Result, Ok, Err, OnOk, IfErr, refl, sym, ◌∙◌, ap, subst, inl}
 use Rattle.cckd_base.specs.declared.geometry.Geometry.{Geometry}
 use Rattle.cckd_base.specs.declared.geometry.Layout.{Layout}
 use Rattle.cckd_base.specs.declared.fault.TrackFault.{TrackFault}
@@ -30,14 +29,6 @@ beside_file s next h = record {
   slot = ap (λ (x : LayerState). x.slot) h.rest;
   layout = h.layout;
   limit = ap (λ (x : LayerState). x.plan.limit) h.rest;
-}
-
--- completing stages nothing
-pub beside_room : (s next : LayerState) → IsSameBeside s next → StaysInRoom s next
-beside_room s next h = record {
-  tables = λ g moved. subst (λ (st : Stages). IsMoved g st) h.stages moved;
-  empty = λ none. h.stages ∙ none;
-  size = (let e = ap (λ (x : LayerState). x.plan.size) h.rest in omega (arith, e));
 }
 
 pub same_file_of : (s : LayerState) → IsSameFile s s

@@ -1,5 +1,5 @@
 -- Which slots are there, one after another.
-use Rattle.std.proofs.Common.{◌≡◌, ⊎_elim, ℕ, zero, suc, ◌+◌, ◌<◌, ◌≤◌, ◌==◌, nat_le, Bool, true, false, not, ◌&&◌, List, length, take, refl, sym, ◌∙◌, ap, subst, arith}
+use Rattle.std.proofs.Common.{◌≡◌, ⊎_elim, ℕ, ◌+◌, ◌<◌, ◌≤◌, ◌==◌, nat_le, Bool, true, false, not, ◌&&◌, List, length, take, refl, sym, ◌∙◌, ap, subst, arith}
 use Rattle.std.specs.List.{list_all}
 use Rattle.std.proofs.lemmas.Bool.{ne_eqb, le-leb, cases_lt}
 use Rattle.cckd_shelf.specs.Seen.{Seen, Tells, Stays}
@@ -7,7 +7,7 @@ use Rattle.cckd_shelf.specs.World.{World, IsSure, file_of}
 use Rattle.cckd_base.specs.Header.{is_present}
 use Rattle.cckd_layer.specs.Reads.{OfFile}
 use Rattle.cckd_stack.specs.Stacked.{OfFiles}
-use Rattle.cckd_stack.specs.Mounting.{IsRow, HasRow, IsGap}
+use Rattle.cckd_stack.specs.Mounting.{IsGap}
 
 -- a file is there where its front isn't zero
 pub there_by_front : (file front : List ℕ) (zeros : Bool) (len : ℕ) → len ≡ length file → 512 ≤ len → front ≡ take 512 file
@@ -88,16 +88,3 @@ module _ (a b c : Seen) (number count : ℕ) (tells : Tells a → Tells b) (look
       within = within;
       is = sym (here told sure) ∙ e;
     }
-
--- all were looked at
-pub looked_all : (a b : Seen) (number count : ℕ) → 9 ≤ number → number ≤ 9 → HasLooked a b number count → OfFiles (λ files. IsRow files count) a
-looked_all a b number count all few looked = λ told sure. record {
-  few = omega (arith, looked.low, few);
-  there = looked.there told sure;
-  none = λ slot high low. looked.none told sure slot high (omega (arith, low, all));
-}
-
--- the first slot and those above it
-pub row_has : (files : ℕ → List ℕ) (count : ℕ) → 1 ≤ count → IsRow files count → HasRow files count
-row_has files zero some row = absurd (omega (arith, some))
-row_has files (suc n) some row = row

@@ -52,10 +52,6 @@ pub record AreStackBy (R : LayerState → World → Type 0) (null : NullBytes) (
   pub agree : AllByRecursion (λ layer. R layer s.world) layers
   pub are : stack_now null layers s ≡ stack
 
--- the layers agree with their files, and are this stack
-abbrev pub AreStack : NullBytes → Stack → List LayerState → Seen → Type 0
-AreStack = AreStackBy Agrees
-
 -- where the layers had this to do with their files, they have it again, and are the same stack
 abbrev pub KeepsStackBy : (LayerState → World → Type 0) → NullBytes → List LayerState → List LayerState → Seen → Seen → Type 0
 KeepsStackBy R null layers next old new =

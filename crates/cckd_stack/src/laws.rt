@@ -121,7 +121,7 @@ pub fn caches_keep_stacks()
 pub fn mounted_layers_agree()
     ensures ties { (layers : List LayerState) (w : World) → AgreeAll layers w → AreTied layers w }
     ensures reads { (layers : List LayerState) (s : Seen) → (Tells s → IsSure s.world → AreTied layers s.world) → CanReadAll layers s }
-    ensures events { (layers : List LayerState) (v w : World) → v.events ≡ w.events → AgreeAll layers v → AgreeAll layers w }
+    ensures events { (layers : List LayerState) (old new : World) → old.events ≡ new.events → AgreeAll layers old → AgreeAll layers new }
     ensures puts { (layers : List LayerState) (bytes : List ℕ) (w : World) → AgreeAll layers w → AgreeAll layers (after_put bytes w) }
     ensures agree { (limit : ℕ) (s : StackState) (old new : Seen) → IsStack s → AreFreshFrom limit 0 s.layers → Tells new → IsSure old.world → IsMounted (file_of old.world) s
         → AreSnugFrom (file_of old.world) 0 s.layers → new.world ≡ after_syncs (length s.layers) old.world → StandFrom (file_of old.world) new.world 0 s.layers → AgreeAll s.layers new.world }

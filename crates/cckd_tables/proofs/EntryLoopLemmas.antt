@@ -11,7 +11,7 @@ use Rattle.cckd_shelf.specs.Seen.{Seen, Tells}
 use Rattle.cckd_shelf.specs.Outcomes.{EachOutcome}
 use Rattle.cckd_shelf.specs.Stops.{StopLeaves, StopsLeave}
 use Rattle.cckd_shelf.specs.Events.{Event}
-use Rattle.cckd_shelf.proofs.MomentLemmas.{at_once, at_end, joins}
+use Rattle.cckd_shelf.proofs.MomentLemmas.{at_end, joins}
 use Rattle.cckd_base.specs.declared.geometry.Layout.{Layout}
 use Rattle.cckd_base.specs.declared.entry.L2Entry.{L2Entry}
 use Rattle.cckd_base.specs.Geometry.{track_count}
@@ -28,7 +28,7 @@ use Rattle.cckd_tables.specs.Cells.{IsReady, AreWordsWritten, AreEntriesWritten,
 use Rattle.cckd_tables.proofs.StagedLemmas.{some_or_none, one_value, new_entry_at, new_entry_plain, entry_own, all_at}
 use Rattle.cckd_tables.proofs.WrittenLemmas.{group_low, part_stays}
 use Rattle.cckd_tables.proofs.BlendLemmas.{blend_entry, entry_written, new_table_stays}
-use Rattle.cckd_tables.proofs.TableLoopLemmas.{Went, went_nowhere, went_then}
+use Rattle.cckd_tables.proofs.TableLoopLemmas.{Went, went_then}
 use Rattle.cckd_tables.proofs.WordLoopLemmas.{one_more, all_words}
 use Rattle.cckd_tables.proofs.PutOverLemmas.{with_put_own, with_put_other, put_over_next, part_overlaid}
 
@@ -136,13 +136,6 @@ pub record EntriesSoFar (l : Layout) (slot : ℕ) (words : List ℕ) (stages : S
   pub now : (was : List ℕ) → IsReady l stages was → HasWords l words was → Tells old
       → AreEntriesWritten l was stages 0 (file_of old.world slot) → AreEntriesWritten l was stages n (file_of new.world slot)
   pub went : Went slot old new
-
-pub entries_first : (l : Layout) (slot : ℕ) (words : List ℕ) (stages : Stages) (s : Seen) → EntriesSoFar l slot words stages 0 s s
-entries_first l slot words stages s = record {
-  stopped = λ was ready has each told. at_once (EachOutcome slot (Blend l was stages)) s.world.events (each told);
-  now = λ was ready has told h. h;
-  went = went_nowhere slot s;
-}
 
 -- a stretch more
 pub entries_stopped : (l : Layout) (slot : ℕ) (words : List ℕ) (stages : Stages) (n : ℕ) (old mid new : Seen) → (Tells old → Tells mid) → EntriesSoFar l slot words stages n old mid

@@ -23,10 +23,10 @@ pub mod PutOverLemmas
 pub mod EntryLoopLemmas
 pub mod EntryRunLemmas
 pub mod PutRunLemmas
+pub mod CallLemmas
 pub mod CommitLemmas
 pub mod TableLemmas
 pub mod FreshLemmas
-pub mod MixtureLemmas
 pub mod MakingLemmas
 pub mod SettleLemmas
 pub mod PlacesLemmas

@@ -99,30 +99,12 @@ word_gives_table l file word t place = elim (eqb_tells word 0) [
   | inr a ↦ elim (eqb_tells word see_parent) [ inl b ↦ absurd (place.1 b.1) | inr b ↦ rw (a.0, b.0) refl ]
 ]
 
-pub word_gives_all : (l : Layout) (file : List ℕ) (word t : ℕ) (e : L2Entry) → Some e ≡ group_entry l word → e ≡ entry_by_word l file word t
-word_gives_all l file word t e is = elim (eqb_tells word 0) [
-  | inl a ↦ rw a.0 (let h = rw a.0 at is in cc)
-  | inr a ↦ elim (eqb_tells word see_parent) [
-    | inl b ↦ rw (a.0, b.0) (let h = rw (a.0, b.0) at is in cc)
-    | inr b ↦ absurd (let h = rw (a.0, b.0) at is in cc)
-  ]
-]
-
 pub word_is_place : (l : Layout) (word : ℕ) → None ≡ group_entry l word → IsPlace word
 word_is_place l word none = elim (eqb_tells word 0) [
   | inl a ↦ absurd (let h = rw a.0 at none in cc)
   | inr a ↦ elim (eqb_tells word see_parent) [
     | inl b ↦ absurd (let h = rw (a.0, b.0) at none in cc)
     | inr b ↦ (a.1, b.1)
-  ]
-]
-
-pub word_is_no_place : (l : Layout) (word : ℕ) (e : L2Entry) → Some e ≡ group_entry l word → IsPlace word → ⊥
-word_is_no_place l word e some place = elim (eqb_tells word 0) [
-  | inl a ↦ place.0 a.1
-  | inr a ↦ elim (eqb_tells word see_parent) [
-    | inl b ↦ place.1 b.1
-    | inr b ↦ (let h = rw (a.0, b.0) at some in absurd cc)
   ]
 ]
 

@@ -4,7 +4,7 @@ use Rattle.std.proofs.lemmas.Bool.Decides.{eqb_tells}
 use Rattle.cckd_base.specs.declared.geometry.Layout.{Layout}
 use Rattle.cckd_base.specs.declared.entry.L2Entry.{L2Entry}
 use Rattle.cckd_base.specs.Numbers.{bytes_at}
-use Rattle.cckd_base.specs.Entry.{word_at, entry_of, entry_at, entry_by_word, entry_in_table}
+use Rattle.cckd_base.specs.Entry.{word_at, entry_of, entry_at, entry_in_table}
 use Rattle.cckd_base.specs.Image.{IsPlace}
 use Rattle.cckd_shelf.specs.Seen.{Seen, Tells, Stays}
 use Rattle.cckd_shelf.specs.World.{World, IsSure, file_of}
@@ -38,12 +38,6 @@ pub old_read : (v : TableView) (file bytes : List ℕ) (g word t : ℕ) → AreO
 old_read v file bytes g word t of low is place read own =
     old_entry v file g word t (entry_among v.layout.order bytes t) of low is place own (entry_read v.layout file bytes word t read)
 
--- and a new one for a group without a table
-pub old_begun : (v : TableView) (file : List ℕ) (g word t : ℕ) (e : L2Entry) → AreOf v file → g < v.layout.groups → word ≡ slice_index v.words g → t / 256 ≡ g
-    → e ≡ entry_by_word v.layout file word t → e ≡ entry_at v.layout file t
-old_begun v file g word t e of low is own has =
-    has ∙ ap (λ w. entry_by_word v.layout file w t) (is ∙ sym (of.words g low) ∙ ap (word_at v.layout file) (sym own))
-
 -- a part of joined lists
 part_front : (xs ys : List ℕ) (at m : ℕ) → at + m ≤ length xs → bytes_at (xs ++ ys) at m ≡ bytes_at xs at m
 part_front [] ys zero zero l = refl
@@ -57,10 +51,6 @@ part_behind : (xs ys : List ℕ) (at k m : ℕ) → at ≡ length xs + k → byt
 part_behind [] ys at k m is = let e : at ≡ k = omega arith in ap (λ n. bytes_at ys n m) e
 part_behind (x ∷ xs) ys zero k m is = absurd (omega arith)
 part_behind (x ∷ xs) ys (suc at) k m is = part_behind xs ys at k m (omega arith)
-
--- the tables of no words
-pub made_none : (l : Layout) (stages : Stages) (tables : List ℕ) (slot : ℕ) (s : Seen) → AreMade l stages 0 tables slot s
-made_none l stages tables slot s = λ told sure i low. absurd (omega arith)
 
 -- one more table behind those that are made
 pub made_more : (l : Layout) (stages : Stages) (n group slot : ℕ) (old new : List ℕ) (first now : Seen) → AreMade l stages n old slot first → length old ≡ 2048 * n → (Tells first → Tells now) → Stays first now

@@ -5,10 +5,6 @@ use Rattle.std.specs.List.Sorted.{IsNonDecreasingBy}
 use Rattle.std.proofs.lemmas.Bool.Decides.{eqb_tells, leb_tells}
 use Rattle.cckd_tables.specs.Stages.{RiseFrom, with_placed}
 
-pub rise_below : (m n : ℕ) (ns : List ℕ) → n ≤ m → RiseFrom m ns → RiseFrom n ns
-rise_below m n [] l h = tt
-rise_below m n (k ∷ ks) l h = (let low = h.0 in omega arith, h.1)
-
 module _ {X : Type 0} (key : X → ℕ) where
   -- none is below the least
   pub rise_least : (n : ℕ) (xs : List X) (i : ℕ) (d : X) → RiseFrom n (map key xs) → i < length xs → n ≤ key (get_or xs i d)

@@ -9,7 +9,7 @@ use Rattle.cckd_base.specs.declared.order.Order.{Order}
 use Rattle.cckd_base.specs.declared.order.Order.TheVariants.{Little, Big}
 use Rattle.cckd_base.specs.declared.geometry.Layout.{Layout}
 use Rattle.cckd_base.specs.declared.entry.L2Entry.{L2Entry}
-use Rattle.cckd_base.specs.Geometry.{track_count, area_of, IsLayout}
+use Rattle.cckd_base.specs.Geometry.{track_count, IsLayout}
 use Rattle.cckd_base.specs.Numbers.{bytes_at}
 use Rattle.cckd_base.specs.Entry.{word_at, entry_at, entry_of, entry_bytes, entry_in_table}
 use Rattle.cckd_base.specs.Image.{IsPlace, ShareNoByte}
@@ -18,11 +18,10 @@ use Rattle.cckd_tables.specs.declared.staged.StagedEntry.{StagedEntry}
 use Rattle.cckd_tables.specs.Staging.{Stages, entry_for, IsMoved, new_entry, new_word}
 use Rattle.cckd_tables.specs.Tables.{HasTables}
 use Rattle.cckd_tables.specs.Blend.{HasNewTables, with_put, put_over, IsCommitted}
-use Rattle.cckd_tables.specs.Commit.{AreInOrder, IsSynced, IsCommittedFrom}
+use Rattle.cckd_tables.specs.Commit.{AreInOrder, IsSynced}
 use Rattle.cckd_tables.specs.Cells.{entry_among}
-use Rattle.cckd_tables.proofs.StagedLemmas.{new_word_at, new_entry_plain, new_word_plain, moved_word, same_entry, same_word, moved_or_not}
+use Rattle.cckd_tables.proofs.StagedLemmas.{new_word_at, new_entry_plain, new_word_plain, moved_word, same_entry, moved_or_not}
 use Rattle.cckd_tables.proofs.WrittenLemmas.{part_stays}
-use Rattle.cckd_tables.proofs.BlendLemmas.{blend_image}
 use Rattle.cckd_tables.proofs.FreshLemmas.{near_part, beside_each}
 use Rattle.cckd_tables.proofs.PutOverLemmas.{with_put_own, with_put_other}
 use Rattle.cckd_tables.proofs.TableLemmas.{entry_read}
@@ -125,18 +124,3 @@ module _ (l : Layout) (stages : Stages) (was mid file : List ℕ) (layout : IsLa
   ]
 
 -- ---- for callers
-
--- words, tables and the header area of the file at the end of a commit
-pub record HasNewWords (l : Layout) (stages : Stages) (was file : List ℕ) : Type 0 where
-  pub area : area_of l.groups ≤ length file
-  pub words : (g : ℕ) → g < l.groups → word_at l file g ≡ new_word l stages was g
-  pub tables : HasTables l file
-
-pub committed_words : (l : Layout) (stages : Stages) (was file : List ℕ) → IsCommittedFrom l stages was file → HasNewWords l stages was file
-committed_words l stages was file (mid, s, c) =
-    let image = blend_image l mid stages file s.image s.can_move c.blend in
-    record {
-      area = image.area;
-      words = λ g low. c.words g low ∙ same_word l stages was mid g (s.words g low);
-      tables = λ g low named. (table_inside l (length file) g (word_at l file g) (image.words g low) named).1;
-    }

@@ -54,19 +54,6 @@ place_here w s = sym (place_is_value w.group (with_placed group_of w s.words)) �
 pub place_other : (w : StagedWord) (s : Stages) (g : ℕ) → g ≢ w.group → place_for g (with_word w s).words ≡ place_for g s.words
 place_other w s g ne = sym (place_is_value g (with_placed group_of w s.words)) ∙ value_other group_of (λ x. x.pos) w s.words g ne ∙ place_is_value g s.words
 
--- a stage more is taken where the track had none
-pub count_entry_new : (e : StagedEntry) (s : Stages) → AreStaged s → IsNone (entry_for e.track s.entries) → staged_count (with_entry e s) ≡ suc (staged_count s)
-count_entry_new e s staged none = by (entry_for e.track s.entries) refl none where
-  by : (o : Option L2Entry) → entry_for e.track s.entries ≡ o → IsNone o → staged_count (with_entry e s) ≡ suc (staged_count s)
-  by None is h = let n = length_new track_of (λ x. x.entry) 0 e s.entries staged.entries (entry_is_value e.track s.entries ∙ is) in omega arith
-  by (Some v) is h = absurd (cc h)
-
-pub count_entry_again : (e : StagedEntry) (s : Stages) → AreStaged s → IsStaged e.track s → staged_count (with_entry e s) ≡ staged_count s
-count_entry_again e s staged some = by (entry_for e.track s.entries) refl some where
-  by : (o : Option L2Entry) → entry_for e.track s.entries ≡ o → IsSome o → staged_count (with_entry e s) ≡ staged_count s
-  by None is h = absurd (cc h)
-  by (Some v) is h = let n = length_again track_of (λ x. x.entry) 0 e s.entries v staged.entries (entry_is_value e.track s.entries ∙ is) in omega arith
-
 pub count_word_new : (w : StagedWord) (s : Stages) → AreStaged s → IsNone (place_for w.group s.words) → staged_count (with_word w s) ≡ suc (staged_count s)
 count_word_new w s staged none = by (place_for w.group s.words) refl none where
   by : (o : Option ℕ) → place_for w.group s.words ≡ o → IsNone o → staged_count (with_word w s) ≡ suc (staged_count s)

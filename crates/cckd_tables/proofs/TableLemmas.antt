@@ -9,10 +9,10 @@ use Rattle.cckd_base.specs.declared.geometry.Layout.{Layout}
 use Rattle.cckd_base.specs.declared.entry.L2Entry.{L2Entry}
 use Rattle.cckd_base.specs.Numbers.{bytes_at}
 use Rattle.cckd_base.specs.Put.{IsPut}
-use Rattle.cckd_base.specs.Entry.{entry_at, entry_of, entry_bytes, entry_in_table}
+use Rattle.cckd_base.specs.Entry.{entry_of, entry_bytes, entry_in_table}
 use Rattle.cckd_base.proofs.PutLemmas.{put_is}
 use Rattle.cckd_tables.specs.declared.staged.StagedEntry.{StagedEntry}
-use Rattle.cckd_tables.specs.Staging.{Stages, entry_for, new_entry}
+use Rattle.cckd_tables.specs.Staging.{entry_for}
 use Rattle.cckd_tables.specs.Blend.{with_put, put_over}
 use Rattle.cckd_tables.specs.Commit.{staged_tracks}
 use Rattle.cckd_tables.specs.Cells.{IsEncoded, entry_among, ArePutOver}
@@ -133,9 +133,3 @@ fill_more order e i end old new size low encoded put so = λ c below.
 pub entry_read : (l : Layout) (file table : List ℕ) (pos t : ℕ) → table ≡ bytes_at file pos 2048 → entry_among l.order table t ≡ entry_in_table l file pos t
 entry_read l file table pos t is =
     ap (λ (bytes : List ℕ). entry_of l.order (bytes_at bytes (8 * (t % 256)) 8)) is ∙ ap (entry_of l.order) (part_of_part file pos 2048 (8 * (t % 256)) 8 (omega arith))
-
--- a table of several spells new entries: that of a group, where the older table has the file's
-pub table_spelled : (l : Layout) (stages : Stages) (was tables old new : List ℕ) (i group : ℕ) → new ≡ bytes_at tables (2048 * i) 2048 → ArePutOver l.order group stages.entries old new
-    → ((t : ℕ) → t / 256 ≡ group → entry_among l.order old t ≡ entry_at l was t) → (t : ℕ) → t / 256 ≡ group → entry_in_table l tables (2048 * i) t ≡ new_entry l stages was t
-table_spelled l stages was tables old new i group part put older t mine =
-    sym (entry_read l tables new (2048 * i) t part) ∙ (put t mine ∙ ap (unwrap_or (entry_for t stages.entries)) (older t mine))

@@ -1,20 +1,17 @@
 -- Writing new tables one after another.
-use Rattle.std.proofs.Common.{◌≡◌, ℕ, ◌+◌, ◌*◌, ◌<◌, ◌≤◌, List, length, take, drop, get_or, Result, Ok, Err, refl, sym, ◌∙◌, ap, subst, inl, inr, arith}
+use Rattle.std.proofs.Common.{◌≡◌, ℕ, ◌+◌, ◌*◌, ◌<◌, ◌≤◌, List, length, take, drop, get_or, Result, Ok, refl, sym, ◌∙◌, ap, subst, inl, inr, arith}
 use Rattle.std.specs.Prelude.{slice_index}
 use Rattle.std.proofs.lemmas.Bool.{cases_lt}
 use Rattle.std.proofs.lemmas.List.{get_or-map, length-take, length-drop}
 use Rattle.cckd_shelf.specs.declared.fault.Failed.{Failed}
-use Rattle.cckd_shelf.specs.declared.fault.Faults.{Faults}
-use Rattle.cckd_shelf.specs.declared.fault.Kind.{Kind}
-use Rattle.cckd_shelf.specs.Faults.{Raises}
 use Rattle.cckd_shelf.specs.Files.{overlaid}
 use Rattle.cckd_shelf.specs.Events.{Event}
 use Rattle.cckd_shelf.specs.World.{IsSure, file_of}
-use Rattle.cckd_shelf.specs.Seen.{Seen, Tells, Fails}
+use Rattle.cckd_shelf.specs.Seen.{Seen, Tells, Called}
 use Rattle.cckd_shelf.specs.Outcomes.{WriteLeaves, EachOutcome}
 use Rattle.cckd_shelf.specs.Stops.{StopsLeave}
 use Rattle.cckd_shelf.specs.Frame.{OnlyIn}
-use Rattle.cckd_shelf.proofs.MomentLemmas.{wrote, joins, at_end, at_once}
+use Rattle.cckd_shelf.proofs.MomentLemmas.{wrote, joins, at_end}
 use Rattle.cckd_shelf.proofs.OutcomeLemmas.{write_made, length_overlaid}
 use Rattle.cckd_shelf.proofs.WorldLemmas.{now_wrote}
 use Rattle.cckd_shelf.proofs.FrameLemmas.{spares_nothing, only_wrote, only_twice}
@@ -62,11 +59,6 @@ went_then slot old mid new tells first second = record {
   counts = second.counts ∙ first.counts;
 }
 
--- a call that failed after others that were Ok
-pub fails_then : {A : Type 0} (kind : Kind) (result : Result A Failed) (old mid new : Seen) → mid.faults ≡ old.faults → Fails kind result mid new → Fails kind result old new
-fails_then kind (Ok value) old mid new same f = record { still = f.still ∙ same; rose = tt }
-fails_then kind (Err e) old mid new same f = record { still = tt; rose = subst (λ (x : Faults). Raises kind x new.faults) same f.rose }
-
 -- what a stop leaves in a write, where writes before it left the same
 pub stop_then : (P : List ℕ → Type 0) (slot position : ℕ) (bytes : List ℕ) (old mid new : Seen) (result : Result (Unit {0}) Failed) → (Tells old → Tells mid)
     → OneWrite slot position bytes result mid new → ((was file : List ℕ) → P was → WriteLeaves position bytes was file → P file)
@@ -82,9 +74,6 @@ pub file_then : (slot position : ℕ) (bytes : List ℕ) (mid new : Seen) → On
 file_then slot position bytes mid new one told = now_wrote slot position bytes mid.world new.world (one.written told)
 
 -- ---- new tables
-
-pub near_self : (stages : Stages) (was : List ℕ) → Near stages was was
-near_self stages was = record { outside = λ i low beside. refl; no_shorter = omega arith; no_longer = λ n low all. low }
 
 -- a new table that is written in whole, in part or not
 pub near_left : (stages : Stages) (i : ℕ) (d : StagedWord) (table was old file : List ℕ) → i < length stages.words → length table ≡ 2048 → Near stages was old
@@ -134,14 +123,7 @@ pub record TablesSoFar (slot : ℕ) (words : List StagedWord) (tables : List ℕ
   pub near : (entries : List StagedEntry) → Tells old → Near (record { entries = entries; words = words }) (file_of old.world slot) (file_of new.world slot)
   pub now : Tells old → AreDisjoint words → AreTablesWritten words tables n (file_of new.world slot)
   pub went : Went slot old new
-
-pub tables_first : (slot : ℕ) (words : List StagedWord) (tables : List ℕ) (s : Seen) → TablesSoFar slot words tables 0 s s
-tables_first slot words tables s = record {
-  stopped = λ entries told. at_once (EachOutcome slot (IsNearOutcome (record { entries = entries; words = words }) slot s.world.events)) s.world.events (λ file h. (file, h, near_self (record { entries = entries; words = words }) file));
-  near = λ entries told. near_self (record { entries = entries; words = words }) (file_of s.world slot);
-  now = λ told disjoint. record { within = λ k low. absurd (omega (arith, low)); bytes = λ k low. absurd (omega (arith, low)) };
-  went = went_nowhere slot s;
-}
+  pub calls : new.calls ≤ old.calls + n
 
 pub tables_stopped : (slot : ℕ) (words : List StagedWord) (tables table : List ℕ) (i : ℕ) (d : StagedWord) (old mid new : Seen) (result : Result (Unit {0}) Failed) → (Tells old → Tells mid)
     → i < length words → length table ≡ 2048 → TablesSoFar slot words tables i old mid → OneWrite slot (get_or words i d).pos table result mid new
@@ -152,9 +134,9 @@ tables_stopped slot words tables table i d old mid new result tells low long so 
     (λ was file p leaves. (p.0, p.1, near_left stages i d table p.0 was file low long p.2 leaves)) (so.stopped entries)
 
 pub tables_next : (slot : ℕ) (words : List StagedWord) (tables table : List ℕ) (i : ℕ) (d : StagedWord) (old mid new : Seen) → (Tells old → Tells mid)
-    → i < length words → length table ≡ 2048 → table ≡ bytes_at tables (2048 * i) 2048 → TablesSoFar slot words tables i old mid → OneWrite slot (get_or words i d).pos table (Ok tt) mid new
+    → i < length words → length table ≡ 2048 → table ≡ bytes_at tables (2048 * i) 2048 → TablesSoFar slot words tables i old mid → OneWrite slot (get_or words i d).pos table (Ok tt) mid new → Called mid new
     → TablesSoFar slot words tables (i + 1) old new
-tables_next slot words tables table i d old mid new tells low long same so one =
+tables_next slot words tables table i d old mid new tells low long same so one called =
     let p = (get_or words i d).pos in
     record {
       stopped = tables_stopped slot words tables table i d old mid new (Ok tt) tells low long so one;
@@ -166,6 +148,7 @@ tables_next slot words tables table i d old mid new tells low long same so one =
           subst (AreTablesWritten words tables (i + 1)) (sym (file_then slot p table mid new one (tells told)))
           (tables_more words tables table (file_of mid.world slot) i d disjoint low same long (so.now told disjoint));
       went = went_more slot p table old mid new tells one so.went;
+      calls = (let c = so.calls in let d = called.once in omega arith);
     }
 
 -- one of the tables, as the loop takes it

@@ -1,5 +1,5 @@
 -- Writing staged words one after another.
-use Rattle.std.proofs.Common.{◌≡◌, ◌≢◌, ℕ, zero, suc, ◌+◌, ◌*◌, ◌<◌, ◌==◌, cond, List, [], ◌∷◌, ◌++◌, length, take, get_or, Option, Some, None, unwrap_or, Result, Ok, sym, ◌∙◌, ap, subst, inl, inr, arith}
+use Rattle.std.proofs.Common.{◌≡◌, ◌≢◌, ℕ, zero, suc, ◌+◌, ◌*◌, ◌<◌, ◌≤◌, ◌==◌, cond, List, [], ◌∷◌, ◌++◌, length, take, get_or, Option, Some, None, unwrap_or, Result, Ok, sym, ◌∙◌, ap, subst, inl, inr, arith}
 use Rattle.std.specs.Int.{w32}
 use Rattle.std.specs.List.{AllByRecursion}
 use Rattle.std.specs.List.Sorted.{IsStrictlyIncreasing}
@@ -9,10 +9,9 @@ use Rattle.std.proofs.lemmas.List.{take_all}
 use Rattle.cckd_shelf.specs.declared.fault.Failed.{Failed}
 use Rattle.cckd_shelf.specs.Files.{overlaid}
 use Rattle.cckd_shelf.specs.World.{file_of}
-use Rattle.cckd_shelf.specs.Seen.{Seen, Tells}
-use Rattle.cckd_shelf.specs.Outcomes.{WriteLeaves, EachOutcome}
+use Rattle.cckd_shelf.specs.Seen.{Seen, Tells, Called}
+use Rattle.cckd_shelf.specs.Outcomes.{WriteLeaves}
 use Rattle.cckd_shelf.specs.Stops.{StopLeaves, StopsLeave}
-use Rattle.cckd_shelf.proofs.MomentLemmas.{at_once}
 use Rattle.cckd_base.specs.declared.geometry.Layout.{Layout}
 use Rattle.cckd_base.specs.Numbers.{number_of}
 use Rattle.cckd_base.specs.Entry.{word_at}
@@ -24,8 +23,8 @@ use Rattle.cckd_tables.specs.Commit.{staged_groups}
 use Rattle.cckd_tables.specs.Cells.{OneWrite, IsReady, AreWordsWritten}
 use Rattle.cckd_tables.proofs.StagedLemmas.{some_or_none, one_value, new_word_at, place_own, all_at}
 use Rattle.cckd_tables.proofs.WrittenLemmas.{reworded}
-use Rattle.cckd_tables.proofs.BlendLemmas.{blend_self, blend_image, blend_word}
-use Rattle.cckd_tables.proofs.TableLoopLemmas.{Went, went_nowhere, went_more, stop_then, file_then}
+use Rattle.cckd_tables.proofs.BlendLemmas.{blend_image, blend_word}
+use Rattle.cckd_tables.proofs.TableLoopLemmas.{Went, went_more, stop_then, file_then}
 
 -- ---- the first so many of a list
 
@@ -86,17 +85,7 @@ pub record WordsSoFar (l : Layout) (slot : ℕ) (words : List StagedWord) (n : �
   pub now : (was : List ℕ) (entries : List StagedEntry) → IsReady l (record { entries = entries; words = words }) was → Tells old
       → file_of old.world slot ≡ was → AreWordsWritten l was (record { entries = entries; words = words }) n (file_of new.world slot)
   pub went : Went slot old new
-
-pub words_first : (l : Layout) (slot : ℕ) (words : List StagedWord) (s : Seen) → WordsSoFar l slot words 0 s s
-words_first l slot words s = record {
-  stopped = λ was entries ready each told. at_once (EachOutcome slot (Blend l was (record { entries = entries; words = words }))) s.world.events (each told);
-  now = λ was entries ready told same. record {
-    blend = subst (Blend l was (record { entries = entries; words = words })) (sym same) (blend_self l was (record { entries = entries; words = words }));
-    words = λ g p low placed. absurd (cc placed);
-    behind = λ i far low. ap (λ (f : List ℕ). get_or f i 0) same;
-  };
-  went = went_nowhere slot s;
-}
+  pub calls : new.calls ≤ old.calls + n
 
 module _ (l : Layout) (slot : ℕ) (words : List StagedWord) (bytes : List ℕ) (i : ℕ) (d : StagedWord) (old mid new : Seen) (tells : Tells old → Tells mid)
     (order : IsStrictlyIncreasing (staged_groups words)) (there : AllByRecursion (λ s. s.group < l.groups) words) (low : i < length words)
@@ -111,14 +100,15 @@ module _ (l : Layout) (slot : ℕ) (words : List StagedWord) (bytes : List ℕ) 
       (word_left l was bytes stages s.group s.pos ready (all_at (λ (x : StagedWord). x.group < l.groups) words i d there low) (place_own words i d order low) four spelled)
       (so.stopped was entries ready each)
 
-  pub words_next : OneWrite slot (1024 + 4 * (get_or words i d).group) bytes (Ok tt) mid new → WordsSoFar l slot words (i + 1) old new
-  words_next one = record {
+  pub words_next : OneWrite slot (1024 + 4 * (get_or words i d).group) bytes (Ok tt) mid new → Called mid new → WordsSoFar l slot words (i + 1) old new
+  words_next one called = record {
     stopped = words_stopped (Ok tt) one;
     now = λ was entries ready told same.
         let stages : Stages = record { entries = entries; words = words } in
         subst (AreWordsWritten l was stages (i + 1)) (sym (file_then slot (1024 + 4 * (get_or words i d).group) bytes mid new one (tells told)))
         (words_more l was bytes stages i d (file_of mid.world slot) ready order there low four spelled (so.now was entries ready told same));
     went = went_more slot (1024 + 4 * (get_or words i d).group) bytes old mid new tells one so.went;
+    calls = (let c = so.calls in let d = called.once in omega arith);
   }
 
 -- with all of them each group has its new word

@@ -1,5 +1,6 @@
 pub mod Blend
 pub mod Cached
+pub mod Calls
 pub mod Cells
 pub mod Commit
 pub mod Device

@@ -2,7 +2,7 @@
 ghost use Rattle.std.specs.Prelude.{◌≡◌, ◌+◌, ◌*◌, ◌/◌, ◌^◌, ◌<◌, ◌≤◌, length};
 ghost use Rattle.std.specs.Int.{w32};
 ghost use Rattle.std.specs.List.{AllByRecursion};
-ghost use Rattle.cckd_shelf.specs.Seen.{seen};
+ghost use Rattle.cckd_shelf.specs.Seen.{seen, Called};
 ghost use Rattle.cckd_base.specs.Numbers.{bytes_of, number_of};
 ghost use Rattle.cckd_tables.specs.Cells.{OneWrite, IsEncoded, cell, run_bytes};
 
@@ -29,7 +29,8 @@ pub(crate) fn write_table<S: Shelf>(
     table: &[u8],
 ) -> Result<(), Failed>
     requires { length table.now ≡ 2048 }
-    ensures { OneWrite slot pos table.now result (seen S.Shows shelf.old) (seen S.Shows shelf.new) }
+    ensures write { OneWrite slot pos table.now result (seen S.Shows shelf.old) (seen S.Shows shelf.new) }
+    ensures called { Called (seen S.Shows shelf.old) (seen S.Shows shelf.new) }
 {
     shelf.write(slot, u64::from(pos), table)
 }
@@ -42,6 +43,7 @@ pub(crate) fn write_word<S: Shelf>(
     word: StagedWord,
 ) -> Result<(), Failed>
     ensures write { OneWrite slot (1024 + 4 * word.group) (bytes_of order w32 word.pos) result (seen S.Shows shelf.old) (seen S.Shows shelf.new) }
+    ensures called { Called (seen S.Shows shelf.old) (seen S.Shows shelf.new) }
     ensures size { length (bytes_of order w32 word.pos) ≡ 4 }
     ensures spelled { number_of order w32 (bytes_of order w32 word.pos) ≡ word.pos }
 {
@@ -61,6 +63,7 @@ pub(crate) fn write_run<S: Shelf>(
     requires few { length run.now ≤ 64 }
     requires place { at < 2 ^ 33 }
     ensures write { OneWrite slot at (run_bytes order run.now) result (seen S.Shows shelf.old) (seen S.Shows shelf.new) }
+    ensures called { Called (seen S.Shows shelf.old) (seen S.Shows shelf.new) }
     ensures encoded { AllByRecursion (λ s. IsEncoded order s.entry) run.now }
 {
     let mut bytes = [0; 512];

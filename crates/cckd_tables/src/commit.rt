@@ -1,5 +1,5 @@
 //! A commit: staged words and entries are written into the file of a slot.
-ghost use Rattle.std.specs.Prelude.{◌≡◌, ◌<◌, ◌≤◌, ℕ, List, length, is_some, IfOk, OnOk};
+ghost use Rattle.std.specs.Prelude.{◌≡◌, ◌<◌, ◌≤◌, ℕ, List, length, is_some, IfOk, OnOk, ◌+◌};
 ghost use Rattle.cckd_shelf.specs.declared.fault.Kind.TheVariants.{Writes};
 ghost use Rattle.cckd_shelf.specs.World.{IsSure, file_of};
 ghost use Rattle.cckd_shelf.specs.Seen.{seen, Tells, Fails};
@@ -9,6 +9,7 @@ ghost use Rattle.cckd_tables.specs.Staging.{place_for};
 ghost use Rattle.cckd_tables.specs.Tables.{HasWords, HasTables};
 ghost use Rattle.cckd_tables.specs.Blend.{Near, Blend, IsCommitted};
 ghost use Rattle.cckd_tables.specs.Commit.{IsNearOutcome, stages_of, IsCommit, MayCommit, MayLeave, IsBlended, IsCommittedFrom, SpellsNewEntries, IsSyncedNow, CountsCommit};
+ghost use Rattle.cckd_tables.specs.Calls.{CallsAtMost, MayCall, commit_writes, writes_from};
 ghost use Rattle.cckd_tables.specs.Cells.{AreDisjoint, AreTablesWritten, IsReady, AreWordsWritten, AreEntriesWritten};
 
 use crate::cell::{cell, write_run, write_table, write_word};
@@ -54,6 +55,9 @@ impl Commit<'_> {
         ensures sure { Tells (seen S.Shows shelf.old) → IsSure (seen S.Shows shelf.old).world → OnOk result (IsSure (seen S.Shows shelf.new).world) }
         ensures others { OnlyIn slot (seen S.Shows shelf.old) (seen S.Shows shelf.new) }
         ensures counts { CountsCommit result (seen S.Shows shelf.old).faults (seen S.Shows shelf.new).faults }
+
+        // Also where a call fails, at most these writes and a sync.
+        ensures calls { CallsAtMost (commit_writes self.now.words.now (stages_of self.now) + 1) (seen S.Shows shelf.old) (seen S.Shows shelf.new) }
     {
         self.prepare(shelf, slot)?;
         let Ok(()) = self.put_over(shelf, slot) else {
@@ -73,6 +77,7 @@ impl Commit<'_> {
         ensures sure { Tells (seen S.Shows shelf.old) → IsSure (seen S.Shows shelf.old).world → OnOk result (IsSure (seen S.Shows shelf.new).world) }
         ensures others { OnlyIn slot (seen S.Shows shelf.old) (seen S.Shows shelf.new) }
         ensures counts { CountsCommit result (seen S.Shows shelf.old).faults (seen S.Shows shelf.new).faults }
+        ensures calls { CallsAtMost (length self.now.moved.now + 1) (seen S.Shows shelf.old) (seen S.Shows shelf.new) }
     {
         let Ok(()) = self.write_tables(shelf, slot) else {
             return Err(Device::Write);
@@ -96,6 +101,7 @@ impl Commit<'_> {
         ensures sure { Tells (seen S.Shows shelf.old) → IsSure (seen S.Shows shelf.old).world → OnOk result (IsSure (seen S.Shows shelf.new).world) }
         ensures others { OnlyIn slot (seen S.Shows shelf.old) (seen S.Shows shelf.new) }
         ensures fails { Fails Writes result (seen S.Shows shelf.old) (seen S.Shows shelf.new) }
+        ensures calls { CallsAtMost (length self.now.moved.now + writes_from self.now 0) (seen S.Shows shelf.old) (seen S.Shows shelf.new) }
     {
         self.write_words(shelf, slot)?;
         self.write_entries(shelf, slot)
@@ -117,6 +123,7 @@ impl Commit<'_> {
         ensures sure { Tells (seen S.Shows shelf.old) → IsSure (seen S.Shows shelf.old).world → OnOk result (IsSure (seen S.Shows shelf.new).world) }
         ensures others { OnlyIn slot (seen S.Shows shelf.old) (seen S.Shows shelf.new) }
         ensures fails { Fails Writes result (seen S.Shows shelf.old) (seen S.Shows shelf.new) }
+        ensures calls { MayCall (writes_from self.now first) (writes_from self.now) result (seen S.Shows shelf.old) (seen S.Shows shelf.new) }
     {
         let track = self.entries[first].track;
         if is_moved(self.moved, track / GROUP_TRACKS) {
@@ -142,6 +149,7 @@ impl Commit<'_> {
         ensures sure { Tells (seen S.Shows shelf.old) → IsSure (seen S.Shows shelf.old).world → OnOk result (IsSure (seen S.Shows shelf.new).world) }
         ensures others { OnlyIn slot (seen S.Shows shelf.old) (seen S.Shows shelf.new) }
         ensures fails { Fails Writes result (seen S.Shows shelf.old) (seen S.Shows shelf.new) }
+        ensures calls { CallsAtMost (writes_from self.now 0) (seen S.Shows shelf.old) (seen S.Shows shelf.new) }
     {
         let mut next = 0;
         while next < self.entries.len() {
@@ -163,6 +171,7 @@ impl Commit<'_> {
         ensures sure { Tells (seen S.Shows shelf.old) → IsSure (seen S.Shows shelf.old).world → OnOk result (IsSure (seen S.Shows shelf.new).world) }
         ensures others { OnlyIn slot (seen S.Shows shelf.old) (seen S.Shows shelf.new) }
         ensures fails { Fails Writes result (seen S.Shows shelf.old) (seen S.Shows shelf.new) }
+        ensures calls { CallsAtMost (length self.now.moved.now) (seen S.Shows shelf.old) (seen S.Shows shelf.new) }
     {
         for i in 0..self.moved.len() {
             let at = i * TABLE_LEN as usize;
@@ -185,6 +194,7 @@ impl Commit<'_> {
         ensures sure { Tells (seen S.Shows shelf.old) → IsSure (seen S.Shows shelf.old).world → OnOk result (IsSure (seen S.Shows shelf.new).world) }
         ensures others { OnlyIn slot (seen S.Shows shelf.old) (seen S.Shows shelf.new) }
         ensures fails { Fails Writes result (seen S.Shows shelf.old) (seen S.Shows shelf.new) }
+        ensures calls { CallsAtMost (length self.now.moved.now) (seen S.Shows shelf.old) (seen S.Shows shelf.new) }
     {
         for word in self.moved {
             write_word(shelf, slot, self.layout.order, *word)?;

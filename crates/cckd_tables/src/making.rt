@@ -3,11 +3,12 @@ ghost use Rattle.std.specs.Prelude.{◌≡◌, ◌+◌, ◌*◌, ◌<◌, ◌≤
 ghost use Rattle.std.specs.Vec.{vec_len, vec_capacity};
 ghost use Rattle.std.specs.List.{AllByRecursion};
 ghost use Rattle.cckd_shelf.specs.World.{IsSure, file_of};
-ghost use Rattle.cckd_shelf.specs.Seen.{seen, Tells, Stays};
+ghost use Rattle.cckd_shelf.specs.Seen.{seen, Tells, Stays, Called};
 ghost use Rattle.cckd_shelf.specs.Stops.{StopLeaves, StopsLeave};
 ghost use Rattle.cckd_shelf.specs.Frame.{OnlyIn};
 ghost use Rattle.cckd_tables.specs.Device.{CountsDevice, OnlyLooks};
 ghost use Rattle.cckd_tables.specs.Commit.{AreInOrder, MayLeave, IsBlended, IsCommittedFrom};
+ghost use Rattle.cckd_tables.specs.Calls.{CallsAtMost, commit_calls};
 ghost use Rattle.cckd_tables.specs.Looking.{IsOfSlot};
 
 use crate::cache::read_table;
@@ -60,6 +61,7 @@ impl Making<'_> {
         ensures size { length table.new ≡ 2048 }
         ensures entries { OnOk result (HasOldEntries self.now.layout.now group table.new slot (seen T.Shows stage.old)) }
         ensures looks { OnlyLooks result (seen T.Shows stage.old) (seen T.Shows stage.new) }
+        ensures called { Called (seen T.Shows stage.old) (seen T.Shows stage.new) }
     {
         let word = self.words[group as usize];
         if word == 0 || word == SEE_PARENT {
@@ -91,6 +93,7 @@ impl Making<'_> {
         ensures len { OnOk result (vec_len tables.new ≡ vec_len tables.old + 2048) }
         ensures capacity { vec_capacity tables.old ≤ vec_capacity tables.new }
         ensures looks { OnlyLooks result (seen T.Shows stage.old) (seen T.Shows stage.new) }
+        ensures called { Called (seen T.Shows stage.old) (seen T.Shows stage.new) }
     {
         let mut table = [0; TABLE_LEN as usize];
         self.old_table(stage, slot, group, &mut table)?;
@@ -115,6 +118,7 @@ impl Making<'_> {
         ensures len { OnOk result (vec_len tables.new ≡ 2048 * length moved.now) }
         ensures capacity { vec_capacity tables.old ≤ vec_capacity tables.new }
         ensures looks { OnlyLooks result (seen T.Shows stage.old) (seen T.Shows stage.new) }
+        ensures calls { CallsAtMost (length moved.now) (seen T.Shows stage.old) (seen T.Shows stage.new) }
     {
         tables.clear();
         for word in moved {
@@ -149,6 +153,7 @@ impl Making<'_> {
         ensures others { OnlyIn slot (seen T.Shows stage.old) (seen T.Shows stage.new) }
         ensures counts { CountsDevice result (seen T.Shows stage.old).faults (seen T.Shows stage.new).faults }
         ensures read { result ≡ Err Device.Read → Stays (seen T.Shows stage.old) (seen T.Shows stage.new) }
+        ensures calls { CallsAtMost (commit_calls self.now.words.now (record { entries = self.now.entries.now; words = moved.now })) (seen T.Shows stage.old) (seen T.Shows stage.new) }
         ensures capacity { vec_capacity tables.old ≤ vec_capacity tables.new }
     {
         self.make(stage, slot, moved, tables)?;

@@ -2,6 +2,7 @@
 ghost use Rattle.std.specs.Prelude.{◌<◌, length};
 ghost use Rattle.cckd_tables.specs.Commit.{staged_tracks};
 ghost use Rattle.cckd_tables.specs.Cells.{IsRun};
+ghost use Rattle.cckd_tables.specs.Calls.{IsWhole};
 
 use crate::staged::StagedEntry;
 use cckd_base::GROUP_TRACKS;
@@ -12,7 +13,8 @@ const SECTOR: u64 = 512;
 /// How many staged entries go in one write, from one of them on that stands at this place.
 pub(crate) fn run_len(at: u64, entries: &[StagedEntry], first: usize) -> usize
     requires { first < length entries.now }
-    ensures { IsRun (staged_tracks entries.now) first result at }
+    ensures run { IsRun (staged_tracks entries.now) first result at }
+    ensures whole { IsWhole (staged_tracks entries.now) first result at }
 {
     let start = entries[first].track;
     let room = ((SECTOR - at % SECTOR) / 8) as usize;

@@ -9,6 +9,7 @@ ghost use Rattle.cckd_shelf.specs.Frame.{OnlyIn};
 ghost use Rattle.cckd_tables.specs.Device.{CountsDevice, OnlyLooks};
 ghost use Rattle.cckd_tables.specs.Tables.{AreOf};
 ghost use Rattle.cckd_tables.specs.Commit.{MayLeave, IsBlended, IsCommittedFrom};
+ghost use Rattle.cckd_tables.specs.Calls.{CallsAtMost, commit_calls};
 ghost use Rattle.cckd_tables.specs.Making.{Commits};
 ghost use Rattle.cckd_tables.specs.Settling.{Settles};
 ghost use Rattle.cckd_tables.specs.Staging.{IsStaged, IsMoved, entry_for};
@@ -250,6 +251,9 @@ impl Tables {
         ensures others { OnlyIn slot (seen T.Shows stage.old) (seen T.Shows stage.new) }
         ensures counts { CountsDevice result (seen T.Shows stage.old).faults (seen T.Shows stage.new).faults }
         ensures read { result ≡ Err Device.Read → Stays (seen T.Shows stage.old) (seen T.Shows stage.new) }
+
+        // Also where a call fails, at most these reads and writes and a sync.
+        ensures calls { CallsAtMost (commit_calls self.old.words self.old.stages) (seen T.Shows stage.old) (seen T.Shows stage.new) }
     {
         let making = Making {
             layout: &self.layout,

@@ -1,6 +1,6 @@
 -- Bytes put one behind another into a list of zeros.
 use Rattle.std.proofs.Common.{◌≡◌, ℕ, ◌+◌, ◌-◌, ◌≤◌, List, [], ◌++◌, length, take, drop, replicate, refl, sym, ◌∙◌, ap, arith, append_assoc, length-append}
-use Rattle.std.proofs.lemmas.List.{drop-drop, drop_at, drop-replicate, take-replicate, take_at, append-nil, length-replicate}
+use Rattle.std.proofs.lemmas.List.{drop-drop, drop_at, drop-replicate, take-replicate, append-nil, length-replicate}
 use Rattle.std.proofs.Math.Seq.{take-append-add}
 use Rattle.cckd_base.specs.Put.{IsPut}
 use Rattle.cckd_base.proofs.PutLemmas.{put_is}
@@ -58,7 +58,3 @@ filled table headers word entry track old b c d new i j k n zeros low p q r s on
     let fourth = put_next behind 2360 2040 0 (table + 2048) n track d new third (omega (arith, behind_long)) (omega (arith, s)) four in
     fourth ∙ append-nil ((behind ++ replicate 2040 0) ++ track) ∙ in_order (headers ++ []) word z entry (replicate 2040 0) track
     ∙ ap (λ (h : List ℕ). h ++ (word ++ (z ++ (entry ++ (replicate 2040 0 ++ track))))) (append-nil headers)
-
--- what a list has after its slice was written as a whole
-pub back_is : (new items : List ℕ) (len : ℕ) → len ≡ length new → take len (new ++ drop (length new) items) ≡ new
-back_is new items len e = take_at new (drop (length new) items) len (sym e)

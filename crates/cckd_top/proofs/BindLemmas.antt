@@ -3,7 +3,7 @@ use Rattle.std.proofs.Common.{◌≡◌, ℕ, ◌+◌, ◌<◌, ◌≤◌, Optio
 use Rattle.std.specs.Option.{SomeIff}
 use Rattle.cckd_shelf.specs.declared.fault.Faults.{Faults}
 use Rattle.cckd_shelf.specs.World.{World, after_bind}
-use Rattle.cckd_top.specs.Names.{slot_name, after_binds, BindsSome}
+use Rattle.cckd_top.specs.Names.{slot_name, after_binds}
 use Rattle.std.proofs.Common.{add-one}
 
 -- the slots below this one have their files
@@ -29,8 +29,3 @@ bound_more tells old now then before after later file n slot so_far at bound fin
       ∙ ap (after_bind n (slot_name file n)) (so_far.bound told));
   quiet = fine ∙ so_far.quiet;
 }
-
--- where a slot got none, those below it have theirs
-pub bound_some : (tells : Type 0) (old now then : World) (before after : Faults) (file : List ℕ) (n : ℕ) → n < 9
-    → IsBound tells old now before after file n → (tells → then ≡ now) → tells → BindsSome file old then
-bound_some tells old now then before after file n few so_far kept told = record { count = n; few = few; done = kept told ∙ so_far.bound told }

@@ -1,5 +1,5 @@
 -- The names of a disk's files are text, and differ.
-use Rattle.std.proofs.Common.{◌≡◌, ⊎_elim, ℕ, zero, suc, ◌+◌, ◌<◌, ◌≤◌, ◌==◌, true, false, cond, List, [], ◌∷◌, ◌++◌, length, codes, Option, Some, None, refl, sym, ◌∙◌, ap, subst, arith, length-append}
+use Rattle.std.proofs.Common.{◌≡◌, ⊎_elim, ℕ, zero, suc, ◌+◌, ◌<◌, ◌≤◌, ◌==◌, true, false, cond, List, [], ◌∷◌, ◌++◌, length, codes, Option, Some, None, sym, ◌∙◌, ap, subst, arith, length-append}
 use Rattle.std.specs.Str.{IsUtf8, IsAscii, bytes_eq}
 use Rattle.std.proofs.lemmas.Bool.{false≢true, cases_lt, cases_eq, cond-true, cond-false, cond_both, eq-eqb, ne_eqb, false_from_ne_true}
 use Rattle.std.proofs.lemmas.List.{same_from_push}
@@ -87,13 +87,3 @@ named_bound w file n named =
 pub named_more : (w next : World) (file : List ℕ) (n : ℕ) → AreNamed w file n → next ≡ after_bind n (slot_name file n) w
     → AreNamed next file (n + 1)
 named_more w next file n named e = subst (λ (v : World). AreNamed v file (n + 1)) (sym e) (named_bound w file n named)
-
--- a slot that got a name has it
-pub bound_name : (w next : World) (n : ℕ) (name : List ℕ) → next ≡ after_bind n name w → name_of next.events n ≡ Some name
-bound_name w next n name e =
-    subst (λ (v : World). name_of v.events n ≡ Some name) (sym e) (
-    cond_both (is_name (name_of w.events n) name) w (record w { events = Bound n name (held_by w name) ∷ w.events })
-    (λ (v : World). name_of v.events n ≡ Some name)
-    (λ same. has_name (name_of w.events n) name same)
-    (λ fresh. cond-true (n == n) (Some name) (cond (is_name (name_of w.events n) name) None (name_of w.events n)) (eq-eqb n n refl))
-    )

@@ -36,6 +36,3 @@ none_kept word (Some n) e none = elim (cases_Bool (is_limit n)) [
   | inl is ↦ absurd (none n (low_enough n is) (decimal_of_number word n e))
   | inr not ↦ kept_not n not
 ]
-
-pub no_limit : (word : List ℕ) → ((n : ℕ) → n < 2 ^ 32 → ¬ (word ≡ decimal n)) → None ≡ limit_in word
-no_limit word none = sym (none_kept word (spelled_number word) refl none)

@@ -6,7 +6,7 @@ ghost use Rattle.cckd_stack.specs.Layers.{Stack as Layered};
 ghost use Rattle.cckd_top.specs.Unhindered.{AreLow, IsUnhindered};
 ghost use Rattle.cckd_top.specs.World.{TellsFiles};
 
-use cckd_memory::{Bytes, FileIn, MemoryStage};
+use cckd_memory::{Bytes, FileIn, MemoryStage, Op};
 use cckd_top::run_plain;
 use std::alloc::Global;
 use std::process::Abort;
@@ -243,6 +243,49 @@ fn what_was_written_is_read_again(rt: HostRuntime) -> Result<(), Fail> {
         &[REPLIES[4], CLOSED],
         0,
     )
+}
+
+/// How many syncs are made before each put, behind the one before it.
+fn syncs_before_puts(alloc: Global, ops: &[Op]) -> Result<Vec<u32>, Fail> {
+    let mut counts = Vec::new(alloc);
+    let mut syncs = 0u32;
+    for op in ops {
+        match op {
+            Op::Sync { .. } => syncs = syncs.saturating_add(1),
+            Op::Put { .. } => {
+                counts.push(syncs)?;
+                syncs = 0;
+            }
+            _ => {}
+        }
+    }
+    Ok(counts)
+}
+
+#[test]
+fn two_hundred_rewrites_are_hardened_by_two_syncs(rt: HostRuntime) -> Result<(), Fail> {
+    let alloc = rt.alloc();
+    let raw = small(alloc, 1056, &[])?;
+    let mut script = String::new(alloc);
+    for byte in 0..200u8 {
+        write!(script, "fill 0 0 8 {byte:02x}\n")?;
+    }
+    script.push_str("harden\n")?;
+    let words = ["cckdrun", "v"];
+    let (stage, code) = run(&rt, alloc, &words, &[("v", &raw)], script.as_bytes(), &[])?;
+    assert_eq!(rt; code, 0);
+    let syncs = syncs_before_puts(alloc, stage.ops())?;
+    assert_eq!(rt;
+        (syncs.len(), syncs.first()),
+        (202, Some(&2)),
+        "one of the mounting, and one of the mark"
+    );
+    assert!(rt;
+        syncs.iter().skip(1).take(199).all(|count| *count == 0),
+        "{syncs:?}"
+    );
+    assert_eq!(rt; syncs.get(200), Some(&2), "those of the hardening");
+    Ok(())
 }
 
 /// What is left of a text behind a front of it.

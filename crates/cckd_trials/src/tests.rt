@@ -6,6 +6,7 @@ use crate::outside::Ran;
 use crate::scripts::{Haunt, long_script, long_shape, random_files, random_limit, random_shape};
 use crate::trial::Trial;
 use std::alloc::{AllocError, Global};
+use std::process::Abort;
 use std::test::Fail;
 
 /// A script at random over files at random.
@@ -89,18 +90,32 @@ fn random_scripts_answer_as_the_model(rt: HostRuntime) -> Result<(), Fail> {
     Ok(())
 }
 
+/// Runs a trial, and looks at what some stops of it leave.
+fn ran_with_stops(
+    rt: &impl Abort,
+    alloc: Global,
+    dice: &mut Dice,
+    trial: &Trial,
+    stops: u8,
+) -> Result<Ran, AllocError> {
+    let (ran, replay) = trial.run(rt, alloc, &[])?;
+    let count = ran.stage.ops().len();
+    for _ in 0..stops {
+        let stop = dice.below(count.wrapping_add(1));
+        trial.check_stop(rt, alloc, dice, &ran, &replay, stop)?;
+    }
+    Ok(ran)
+}
+
 #[test]
 fn random_stops_leave_what_was_hardened(rt: HostRuntime) -> Result<(), Fail> {
     let alloc = rt.alloc();
     for seed in 50_000..54_000u64 {
         let mut dice = Dice::new(seed);
         let trial = random_trial(alloc, &mut dice, seed, false)?;
-        let (ran, replay) = trial.run(&rt, alloc, &[])?;
-        let count = ran.stage.ops().len();
-        for _ in 0..3 {
-            let stop = dice.below(count.wrapping_add(1));
-            trial.check_stop(&rt, alloc, &mut dice, &ran, &replay, stop)?;
-        }
+        let ran = ran_with_stops(&rt, alloc, &mut dice, &trial, 3)?;
+        let next = next_trial(alloc, &mut dice, trial, &ran)?;
+        let _ran = ran_with_stops(&rt, alloc, &mut dice, &next, 2)?;
     }
     Ok(())
 }

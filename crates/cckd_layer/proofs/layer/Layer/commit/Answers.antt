@@ -7,6 +7,8 @@ use Rattle.cckd_layer.specs.Writes.{StopsWithin, KeepsMap, SettlesCommit, IsComm
 use Rattle.cckd_layer.proofs.WritesLemmas.{committed_agrees, commit_within, commits_of}
 use Rattle.cckd_layer.specs.Calm.{LeavesFile}
 use Rattle.cckd_layer.proofs.CalmLemmas.{commit_leaves}
+use Rattle.cckd_layer.specs.Headed.{KeepsHeaders}
+use Rattle.cckd_layer.proofs.HeadedLemmas.{commit_headers}
 use Rattle.cckd_layer.proofs.layer.Layer.commit.Goals as goal
 
 pub returns-in-Ok-clause-map : goal.returns-in-Ok-clause-map
@@ -54,3 +56,21 @@ returns-in-Ok-clause-leaves g c =
     let s : LayerState = record { slot = i.slot; header = i.header; tables = i.tables; plan = i.space; marked = i.marked; hardened = i.hardened; broken = i.broken } in
     subst (λ (x : LayerState). LeavesFile x old new) c.self.view_is
     (commit_leaves s old new c.layout-layout.ensures.tables c.commit.ensures.stopped c.in-Ok.ensures.now)
+
+pub returns-in-Ok-clause-headers : goal.returns-in-Ok-clause-headers
+returns-in-Ok-clause-headers g c =
+    let i = c.self.inside in
+    let old = seen g.T.Shows c.args.stage.now in
+    let new = seen g.T.Shows c.commit.new.stage in
+    let s : LayerState = record { slot = i.slot; header = i.header; tables = i.tables; plan = i.space; marked = i.marked; hardened = i.hardened; broken = i.broken } in
+    subst (λ (x : LayerState). KeepsHeaders x old new) c.self.view_is
+    (commit_headers s old new c.layout-layout.ensures.tables c.commit.ensures.stopped)
+
+pub returns-in-Err-clause-headers : goal.returns-in-Err-clause-headers
+returns-in-Err-clause-headers g c =
+    let i = c.self.inside in
+    let old = seen g.T.Shows c.args.stage.now in
+    let new = seen g.T.Shows c.commit.new.stage in
+    let s : LayerState = record { slot = i.slot; header = i.header; tables = i.tables; plan = i.space; marked = i.marked; hardened = i.hardened; broken = i.broken } in
+    subst (λ (x : LayerState). KeepsHeaders x old new) c.self.view_is
+    (commit_headers s old new c.layout-layout.ensures.tables c.commit.ensures.stopped)

@@ -1,11 +1,14 @@
 use Rattle.std.proofs.Common.{◌≡◌, true, refl, subst}
 use Rattle.cckd_shelf.specs.Seen.{seen}
 use Rattle.cckd_shelf.specs.Frame.{OnlyIn}
+use Rattle.cckd_shelf.specs.Outcomes.{IsOutcome}
+use Rattle.cckd_shelf.specs.Stops.{StopsLeave}
 use Rattle.cckd_shelf.proofs.FrameLemmas.{only_synced}
 use Rattle.cckd_layer.specs.Stands.{nothing_staged}
 use Rattle.cckd_layer.specs.Mounted.{LayerState}
 use Rattle.cckd_layer.specs.Writes.{StopsWithin, KeepsMap, StopHolds, IsReleased}
 use Rattle.cckd_layer.proofs.WritesLemmas.{released_agrees, synced_holds, sync_within}
+use Rattle.cckd_layer.proofs.HeadedLemmas.{sync_adds}
 use Rattle.cckd_layer.proofs.layer.Layer.make_stay.Goals as goal
 
 pub returns-in_default-clause-stopped : goal.returns-in_default-clause-stopped
@@ -53,3 +56,21 @@ returns-clause-holds g c =
     let s : LayerState = record { slot = i.slot; header = i.header; tables = i.tables; plan = i.space; marked = i.marked; hardened = i.hardened; broken = i.broken } in
     subst (λ (x : LayerState). x.tables.stages ≡ nothing_staged → StopHolds g.U.Unit.null_bytes x old new) c.self.view_is
     (λ empty told a. synced_holds g.U.Unit.null_bytes s old new empty (c.in-Ok.ensures.synced told) told a)
+
+pub returns-in_default-clause-added : goal.returns-in_default-clause-added
+returns-in_default-clause-added g c =
+    let i = c.self.inside in
+    let old = seen g.T.Shows c.args.stage.now in
+    let new = seen g.T.Shows c.sync-synced.new.self in
+    let s : LayerState = record { slot = i.slot; header = i.header; tables = i.tables; plan = i.space; marked = i.marked; hardened = i.hardened; broken = i.broken } in
+    subst (λ (x : LayerState). StopsLeave x.slot (IsOutcome old.world.events x.slot) old new) c.self.view_is
+    (sync_adds s old new c.sync-synced.result c.sync-synced.ensures.synced c.sync-synced.ensures.kept)
+
+pub returns-clause-added : goal.returns-clause-added
+returns-clause-added g c =
+    let i = c.self.inside in
+    let old = seen g.T.Shows c.args.stage.now in
+    let new = seen g.T.Shows c.sync-synced.new.self in
+    let s : LayerState = record { slot = i.slot; header = i.header; tables = i.tables; plan = i.space; marked = i.marked; hardened = i.hardened; broken = i.broken } in
+    subst (λ (x : LayerState). StopsLeave x.slot (IsOutcome old.world.events x.slot) old new) c.self.view_is
+    (sync_adds s old new c.sync-synced.result c.sync-synced.ensures.synced c.sync-synced.ensures.kept)

@@ -3,7 +3,7 @@ use Rattle.cckd_shelf.specs.Seen.{seen, Tells}
 use Rattle.cckd_shelf.specs.World.{IsSure}
 use Rattle.cckd_base.specs.declared.geometry.Layout.{Layout}
 use Rattle.cckd_base.specs.declared.layer_fault.LayerFault.{LayerFault}
-use Rattle.cckd_layer.specs.Storing.{IsStoredOf, stored_as}
+use Rattle.cckd_layer.specs.Storing.{IsStoredOf, stored_as, need_of}
 use Rattle.cckd_layer.specs.Mounted.{LayerState, CanRead}
 use Rattle.cckd_layer.specs.Writes.{Agrees, IsAct, KeepsMapWith, claims_of}
 use Rattle.cckd_layer.specs.Preparing.{IsNoRoomIn, SuitsFile}
@@ -14,6 +14,9 @@ use Rattle.cckd_layer.proofs.PrepareLemmas.{kept_unread, map_same, looked_same}
 use Rattle.cckd_layer.proofs.ReadyLemmas.{outside_refusal, no_room_refusal, prepared, ready_still}
 use Rattle.cckd_layer.specs.Calm.{KeepsUnharmed}
 use Rattle.cckd_layer.proofs.CalmLemmas.{looked_unharmed, unharmed_then, unread_unharmed, freed_unharmed}
+use Rattle.cckd_layer.specs.Headed.{KeepsHeaders, StaysSteady}
+use Rattle.cckd_layer.proofs.HeadedLemmas.{headers_still, headers_then, steady_looked}
+use Rattle.cckd_layer.proofs.TakenLemmas.{taken_by}
 use Rattle.cckd_layer.proofs.layer.Layer.prepare.Goals as goal
 
 pub make_free_stages-requires-clause-can_read : goal.make_free_stages-requires-clause-can_read
@@ -82,6 +85,20 @@ returns-in-Ok-find_places-clause-prepared g c =
     let suits = subst (λ (x : LayerState). Tells d → Agrees x d.world → SuitsFile n t room e.world) sameH c.in-Ok-find_places.ensures.suits in
     prepared null s m f n a b d e t c.in-Ok.entry c.stored-stored.result room c.need.result (λ told. told) (λ told. told) c.make_free_stages.ensures.act.same sameF c.requires.track
     c.need.ensures c.in_default.ensures.map c.find_entry.ensures.map placed c.in-Ok.ensures.entry suits
+
+pub returns-in-Ok-find_places-clause-taken : goal.returns-in-Ok-find_places-clause-taken
+returns-in-Ok-find_places-clause-taken g c = λ told agrees.
+    let null = g.U.Unit.null_bytes in
+    let s = c.args.self.now in
+    let m = c.make_free_stages.new.self in
+    let a = seen g.T.Shows c.args.stage.now in
+    let b = seen g.T.Shows c.make_free_stages.new.stage in
+    let f = c.find_entry.new.self in
+    let d = seen g.T.Shows c.find_entry.new.stage in
+    let map = maps_then [] [] [] null s m f a b d (λ x. x) c.make_free_stages.ensures.act.same c.in_default.ensures.map c.find_entry.ensures.map in
+    taken_by null s m f c.stored-stored.new.self c.find_places.new.self a d (seen g.T.Shows c.find_places.new.stage) c.args.t.0 c.need.result (need_of c.stored-stored.result) c.in-Ok-find_places.room.places
+    (λ free. let still = c.make_free_stages.ensures.still free in still.1) c.in_default.ensures.few c.find_entry.ensures.rest c.stored-stored.ensures.same (map told agrees) c.need.ensures
+    (λ there. c.in-Ok-find_places.ensures.takes told there)
 
 pub returns-in-Ok-find_places-clause-act : goal.returns-in-Ok-find_places-clause-act
 returns-in-Ok-find_places-clause-act g c =
@@ -237,3 +254,70 @@ returns-in-Err-find_places-clause-unharmed g c = λ denial.
     let file = same_file_twice s m f c.make_free_stages.ensures.act.same sameF in
     let last = subst (λ (x : LayerState). KeepsUnharmed x n d e) c.stored-stored.ensures.same (c.in-Err-find_places.ensures.unharmed denial) in
     unharmed_then null s f n a d e (λ told. told) file map one last
+
+pub returns-in-Err-find_entry-clause-headers : goal.returns-in-Err-find_entry-clause-headers
+returns-in-Err-find_entry-clause-headers g c =
+    let null = g.U.Unit.null_bytes in
+    let s = c.args.self.now in
+    let m = c.make_free_stages.new.self in
+    let a = seen g.T.Shows c.args.stage.now in
+    let b = seen g.T.Shows c.make_free_stages.new.stage in
+    let f = c.find_entry.new.self in
+    let d = seen g.T.Shows c.find_entry.new.stage in
+    let sameF = looked_same m f f.tables.cached c.find_entry.ensures.rest in
+    let steady = c.in_default.ensures.steady in
+    let one = headers_then s m a b d (λ told. told) c.make_free_stages.ensures.act.same.slot (λ told agrees. (c.in_default.ensures.map told agrees).agrees) (λ told agrees. (steady told agrees).hardened)
+    c.make_free_stages.ensures.headers (headers_still m b d c.find_entry.ensures.reads.kept) in
+    one
+
+pub returns-in-Ok-find_places-clause-headers : goal.returns-in-Ok-find_places-clause-headers
+returns-in-Ok-find_places-clause-headers g c =
+    let null = g.U.Unit.null_bytes in
+    let s = c.args.self.now in
+    let m = c.make_free_stages.new.self in
+    let a = seen g.T.Shows c.args.stage.now in
+    let b = seen g.T.Shows c.make_free_stages.new.stage in
+    let f = c.find_entry.new.self in
+    let d = seen g.T.Shows c.find_entry.new.stage in
+    let sameF = looked_same m f f.tables.cached c.find_entry.ensures.rest in
+    let steady = c.in_default.ensures.steady in
+    let one = headers_then s m a b d (λ told. told) c.make_free_stages.ensures.act.same.slot (λ told agrees. (c.in_default.ensures.map told agrees).agrees) (λ told agrees. (steady told agrees).hardened)
+    c.make_free_stages.ensures.headers (headers_still m b d c.find_entry.ensures.reads.kept) in
+    let map = maps_then [] [] [] null s m f a b d (λ told. told) c.make_free_stages.ensures.act.same c.in_default.ensures.map c.find_entry.ensures.map in
+    let e = seen g.T.Shows c.find_places.new.stage in
+    headers_then s f a d e (λ told. told) (sameF.slot ∙ c.make_free_stages.ensures.act.same.slot) (λ told agrees. (map told agrees).agrees)
+    (λ told agrees hard. ap (λ (x : LayerState). x.hardened) c.find_entry.ensures.rest ∙ (steady told agrees).hardened hard) one
+    (subst (λ (x : LayerState). KeepsHeaders x d e) c.stored-stored.ensures.same c.find_places.ensures.headers)
+
+pub returns-in-Err-find_places-clause-headers : goal.returns-in-Err-find_places-clause-headers
+returns-in-Err-find_places-clause-headers g c =
+    let null = g.U.Unit.null_bytes in
+    let s = c.args.self.now in
+    let m = c.make_free_stages.new.self in
+    let a = seen g.T.Shows c.args.stage.now in
+    let b = seen g.T.Shows c.make_free_stages.new.stage in
+    let f = c.find_entry.new.self in
+    let d = seen g.T.Shows c.find_entry.new.stage in
+    let sameF = looked_same m f f.tables.cached c.find_entry.ensures.rest in
+    let steady = c.in_default.ensures.steady in
+    let one = headers_then s m a b d (λ told. told) c.make_free_stages.ensures.act.same.slot (λ told agrees. (c.in_default.ensures.map told agrees).agrees) (λ told agrees. (steady told agrees).hardened)
+    c.make_free_stages.ensures.headers (headers_still m b d c.find_entry.ensures.reads.kept) in
+    let map = maps_then [] [] [] null s m f a b d (λ told. told) c.make_free_stages.ensures.act.same c.in_default.ensures.map c.find_entry.ensures.map in
+    let e = seen g.T.Shows c.find_places.new.stage in
+    headers_then s f a d e (λ told. told) (sameF.slot ∙ c.make_free_stages.ensures.act.same.slot) (λ told agrees. (map told agrees).agrees)
+    (λ told agrees hard. ap (λ (x : LayerState). x.hardened) c.find_entry.ensures.rest ∙ (steady told agrees).hardened hard) one
+    (subst (λ (x : LayerState). KeepsHeaders x d e) c.stored-stored.ensures.same c.find_places.ensures.headers)
+
+pub returns-in-Ok-find_places-clause-steady : goal.returns-in-Ok-find_places-clause-steady
+returns-in-Ok-find_places-clause-steady g c =
+    let null = g.U.Unit.null_bytes in
+    let s = c.args.self.now in
+    let m = c.make_free_stages.new.self in
+    let a = seen g.T.Shows c.args.stage.now in
+    let b = seen g.T.Shows c.make_free_stages.new.stage in
+    let f = c.find_entry.new.self in
+    let n = c.find_places.new.self in
+    let d = seen g.T.Shows c.find_entry.new.stage in
+    let map = maps_then [] [] [] null s m f a b d (λ told. told) c.make_free_stages.ensures.act.same c.in_default.ensures.map c.find_entry.ensures.map in
+    let last = subst (λ (x : LayerState). StaysSteady x n d) c.stored-stored.ensures.same c.in-Ok-find_places.ensures.steady in
+    λ told agrees. steady_looked s m f n (c.in_default.ensures.steady told agrees) c.find_entry.ensures.rest (last told (map told agrees).agrees)

@@ -12,6 +12,8 @@ use Rattle.cckd_layer.specs.Storing.{stored_as, padded, IsOneWrite}
 use Rattle.cckd_layer.specs.Writes.{StopsWithinWith, KeepsMapWith}
 use Rattle.cckd_layer.proofs.ReservedLemmas.{put_agrees, put_within}
 use Rattle.cckd_layer.proofs.StoreLemmas.{filled_items, padded_length, one_write}
+use Rattle.cckd_layer.specs.Headed.{KeepsHeadersWith}
+use Rattle.cckd_layer.proofs.HeadedLemmas.{put_headers}
 use Rattle.cckd_layer.proofs.layer.Layer.put_reserved.Goals as goal
 
 pub returns-in_default-clause-stopped : goal.returns-in_default-clause-stopped
@@ -145,3 +147,39 @@ returns-clause-alone g c =
     let written = subst (λ (b : List ℕ). OnOk result (Makes (after_write i.slot c.args.pos b) old new)) front c.write_front-written.ensures.written in
     let torn = subst (λ (b : List ℕ). OnErr result (MayMake (after_torn i.slot c.args.pos b) old new)) front c.write_front-written.ensures.torn in
     subst (λ (x : LayerState). IsOneWrite x.slot (padded value) old new) c.self.view_is (one_write i.slot c.args.pos (padded value) old new result written torn)
+
+pub returns-in_default-clause-headers : goal.returns-in_default-clause-headers
+returns-in_default-clause-headers g c =
+    let i = c.self.inside in
+    let value = stored_as g.U.Unit.value c.args.form c.args.bytes.now in
+    let items = ap (λ (l : List ℕ). length l) c.as_mut_slice.ensures.value in
+    let same : c.as_slice.result.now ≡ c.fill_padded-count.new.buffer =
+    c.as_slice.ensures.value ∙ filled_items i.buffer.len i.buffer.items c.fill_padded-count.new.buffer (sym (c.fill_padded-count.ensures.len ∙ items)) (sym (c.fill_padded-count.ensures.len ∙ c.as_mut_slice.ensures.len)) in
+    let front : take c.fill_padded-count.result c.as_slice.result.now ≡ padded value = ap (take c.fill_padded-count.result) same ∙ c.fill_padded-count.ensures.front in
+    let old = seen g.T.Shows c.args.stage.now in
+    let new = seen g.T.Shows c.write_front-written.new.stage in
+    let result = c.write_front-written.result in
+    let written = subst (λ (b : List ℕ). OnOk result (Makes (after_write i.slot c.args.pos b) old new)) front c.write_front-written.ensures.written in
+    let torn = subst (λ (b : List ℕ). OnErr result (MayMake (after_torn i.slot c.args.pos b) old new)) front c.write_front-written.ensures.torn in
+    let s : LayerState = record { slot = i.slot; header = i.header; tables = i.tables; plan = i.space; marked = i.marked; hardened = i.hardened; broken = i.broken } in
+    let long : length (padded value) ≡ aligned_up (length c.args.bytes.now) = padded_length value ∙ ap aligned_up c.fill_padded-count.ensures.long in
+    subst (λ (x : LayerState). (claims : List Extent) → IsAmong (claim c.args.pos (aligned_up (length c.args.bytes.now))) claims → KeepsHeadersWith claims x old new) c.self.view_is
+    (λ claims among. put_headers claims s old new c.args.pos (padded value) result (omega (arith, long, c.requires.some)) (subst (λ (n : ℕ). IsAmong (claim c.args.pos n) claims) (sym long) among) written torn)
+
+pub returns-clause-headers : goal.returns-clause-headers
+returns-clause-headers g c =
+    let i = c.self.inside in
+    let value = stored_as g.U.Unit.value c.args.form c.args.bytes.now in
+    let items = ap (λ (l : List ℕ). length l) c.as_mut_slice.ensures.value in
+    let same : c.as_slice.result.now ≡ c.fill_padded-count.new.buffer =
+    c.as_slice.ensures.value ∙ filled_items i.buffer.len i.buffer.items c.fill_padded-count.new.buffer (sym (c.fill_padded-count.ensures.len ∙ items)) (sym (c.fill_padded-count.ensures.len ∙ c.as_mut_slice.ensures.len)) in
+    let front : take c.fill_padded-count.result c.as_slice.result.now ≡ padded value = ap (take c.fill_padded-count.result) same ∙ c.fill_padded-count.ensures.front in
+    let old = seen g.T.Shows c.args.stage.now in
+    let new = seen g.T.Shows c.write_front-written.new.stage in
+    let result = c.write_front-written.result in
+    let written = subst (λ (b : List ℕ). OnOk result (Makes (after_write i.slot c.args.pos b) old new)) front c.write_front-written.ensures.written in
+    let torn = subst (λ (b : List ℕ). OnErr result (MayMake (after_torn i.slot c.args.pos b) old new)) front c.write_front-written.ensures.torn in
+    let s : LayerState = record { slot = i.slot; header = i.header; tables = i.tables; plan = i.space; marked = i.marked; hardened = i.hardened; broken = i.broken } in
+    let long : length (padded value) ≡ aligned_up (length c.args.bytes.now) = padded_length value ∙ ap aligned_up c.fill_padded-count.ensures.long in
+    subst (λ (x : LayerState). (claims : List Extent) → IsAmong (claim c.args.pos (aligned_up (length c.args.bytes.now))) claims → KeepsHeadersWith claims x old new) c.self.view_is
+    (λ claims among. put_headers claims s old new c.args.pos (padded value) result (omega (arith, long, c.requires.some)) (subst (λ (n : ℕ). IsAmong (claim c.args.pos n) claims) (sym long) among) written torn)

@@ -6,6 +6,7 @@ use Rattle.cckd_layer.specs.Writes.{IsAct}
 use Rattle.cckd_layer.specs.Storing.{stored_as, IsPutTo, IsClaimed}
 use Rattle.cckd_layer.proofs.ThenLemmas.{same_marked, same_put, act_then, maps_then, ok_then}
 use Rattle.cckd_layer.proofs.StoreLemmas.{put_after}
+use Rattle.cckd_layer.proofs.HeadedLemmas.{mark_then_put}
 use Rattle.cckd_layer.proofs.layer.Layer.put_track.Goals as goal
 
 pub returns-in-Some-clause-map : goal.returns-in-Some-clause-map
@@ -53,3 +54,14 @@ returns-in-Some-clause-put g c = λ claims told agrees.
     (λ made. subst (λ (o : Option ℕ). IsPutTo o value (file_of a.world s.slot) (file_of d.world s.slot)) (sym c.in-Some.is)
     (put_after s.slot m.slot c.in-Some.pos value a.world b.world d.world same.slot (made told) long))
     c.put_reserved.ensures.made
+
+pub returns-in-Some-clause-marks : goal.returns-in-Some-clause-marks
+returns-in-Some-clause-marks g c = λ claims claimed.
+    let s = c.args.self.now in
+    let m = c.mark.new.self in
+    let a = seen g.T.Shows c.args.stage.now in
+    let b = seen g.T.Shows c.mark.new.stage in
+    let d = seen g.T.Shows c.put_reserved.new.stage in
+    let among = subst (λ (o : Option ℕ). IsClaimed o (aligned_up (length c.args.bytes.now)) claims) c.in-Some.is claimed in
+    mark_then_put claims s m a b d (λ told. told) (same_marked s m c.in_default.ensures.rest).slot c.in_default.ensures.marked (λ told agrees. (c.in_default.ensures.map claims told agrees).agrees)
+    (c.mark.ensures.marks claims) (c.put_reserved.ensures.headers claims among)

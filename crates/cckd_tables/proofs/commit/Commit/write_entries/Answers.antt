@@ -1,3 +1,4 @@
+use Rattle.std.proofs.Common.{arith}
 use Rattle.cckd_shelf.specs.Seen.{seen}
 use Rattle.cckd_tables.specs.Commit.{stages_of}
 use Rattle.cckd_shelf.proofs.FrameLemmas.{only_twice}
@@ -21,4 +22,5 @@ loop-next-preserved g c =
       so = entries_then c.args.self.now.layout.now c.args.slot c.args.self.now.words.now (stages_of c.args.self.now) c.loop-next.next c.in_ok-next.next
           (seen g.S.Shows c.args.shelf.now) (seen g.S.Shows c.loop-next.shelf) (seen g.S.Shows c.write_next.new.shelf) (λ told. told) c.loop-next.invariant.so c.write_next.ensures.stopped
           done.now (record { sure = done.sure; others = c.write_next.ensures.others; counts = done.fails.still });
+      calls = (let before = c.loop-next.invariant.calls in let more = done.calls in omega arith);
     }

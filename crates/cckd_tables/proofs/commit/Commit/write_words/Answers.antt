@@ -19,4 +19,4 @@ returns-in_err-write_word-clause-others g c =
 pub loop-word-preserved : goal.loop-word-preserved
 loop-word-preserved g c =
     words_next c.args.self.now.layout.now c.args.slot c.args.self.now.moved.now _ c.loop-word.word-index blank (seen g.S.Shows c.args.shelf.now) (seen g.S.Shows c.loop-word.shelf) (seen g.S.Shows c.write_word.new.shelf) (λ told. told)
-    c.requires.order.groups c.requires.order.groups_there c.loop-word-test.true c.write_word.ensures.size c.write_word.ensures.spelled c.loop-word.invariant c.in_ok-write_word.ensures.write
+    c.requires.order.groups c.requires.order.groups_there c.loop-word-test.true c.write_word.ensures.size c.write_word.ensures.spelled c.loop-word.invariant c.in_ok-write_word.ensures.write c.write_word.ensures.called

@@ -27,4 +27,5 @@ loop-word-preserved g c =
       len = (let n = before.len in let m = c.in_ok-add.ensures.len in omega arith);
       capacity = (let n = before.capacity in let m = c.add.ensures.capacity in omega arith);
       looked = record { kept = λ told. looks.kept told ∙ before.looked.kept told; faults = looks.counts ∙ before.looked.faults };
+      calls = (let n = before.calls in let m = c.add.ensures.called.once in omega arith);
     }
